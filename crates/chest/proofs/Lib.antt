@@ -1,0 +1,3 @@
+pub mod Totals
+pub mod Counts
+pub mod Calls
