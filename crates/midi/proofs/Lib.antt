@@ -1,0 +1,4 @@
+-- The lemmas of the crate.
+pub mod Lines
+pub mod Notes
+pub mod States
