@@ -1,0 +1,9 @@
+pub mod Layout
+pub mod Faults
+pub mod Foot
+pub mod Magnet
+pub mod Drain
+pub mod Midi
+pub mod Receiver
+pub mod Run
+pub mod Draining
