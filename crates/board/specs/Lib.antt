@@ -1,0 +1,10 @@
+pub mod Faults
+pub mod Wires
+pub mod Harness
+pub mod Counts
+pub mod Layout
+pub mod Board
+pub mod Handing
+pub mod Fitting
+pub mod Making
+pub mod Laws
