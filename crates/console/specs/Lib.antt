@@ -1,0 +1,10 @@
+pub mod Faults
+pub mod Keys
+pub mod Knobs
+pub mod KeyTable
+pub mod Pistons
+pub mod Model
+pub mod Record
+pub mod Tracks
+pub mod Walks
+pub mod Plays
