@@ -1,0 +1,14 @@
+pub mod Kept
+pub mod Forming
+pub mod Lining
+pub mod Course
+pub mod Clash
+pub mod Spelling
+pub mod Heading
+pub mod Judging
+pub mod Writing
+pub mod Runs
+pub mod Said
+pub mod Counting
+pub mod Cutting
+pub mod Digital

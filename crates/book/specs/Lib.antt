@@ -1,0 +1,14 @@
+pub mod Asking
+pub mod Bytes
+pub mod Entries
+pub mod Faults
+pub mod Forms
+pub mod Grammar
+pub mod Heads
+pub mod Limits
+pub mod Numerals
+pub mod Pieces
+pub mod Reading
+pub mod Shapes
+pub mod Tables
+pub mod Tokens
