@@ -1,0 +1,6 @@
+mod Numbers
+mod Runs
+mod Stacks
+mod Filling
+mod Organs
+mod Answering
