@@ -72,7 +72,7 @@ impl Book {
         })
     }
 
-    // The scope of a piston, where the book defines it.
+    // The knobs that a piston takes, where the book defines it.
     pub fn scope(&self, piston: usize) -> Option<Scope>
         ensures value { λ r. ⌜ r ≡ scope-in (now (self .entry)) piston ⌝ }
         ensures bound { λ r. ⌜ found r (λ s. (s .lowest ≤ s .highest) × (s .highest < knobs)) ⌝ }

@@ -38,7 +38,7 @@ pub struct Knobs {
     ghost fits: { (k : ℕ) → k < knobs → sound (getD steps k 0) (getD homes k 0) ≡ true },
 }
 
-// The scope of each piston, and whether the book names it.
+// The knobs that each piston takes, and whether the book names it.
 #[derive(Drop)]
 pub struct Scopes {
     pub(crate) lowest: [u8; PISTONS],

@@ -13,7 +13,7 @@ use Rattle.console.specs.declared.pistons.Scope.{Scope}
 abbrev pub blank : Piston
 blank = record { scope = None; captured = false; positions = [] }
 
--- the scope of a piston, none where it is undefined
+-- the knobs that a piston takes, none where it is undefined
 abbrev pub scope-of : List Piston → ℕ → Option Scope
 scope-of pistons q = cond (ltb q 40) (getD pistons q blank .scope) None
 

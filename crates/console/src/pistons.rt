@@ -1,4 +1,4 @@
-// The piston table: the scope of each piston that is defined, and what was captured on it.
+// The piston table: the knobs that each defined piston takes, and what was captured on it.
 ghost use mathlib.Core.Path.{_≡_};
 ghost use mathlib.Core.Bool.{true, false, _&&_};
 ghost use Prim.Native.Nat.{ℕ, _<_};
@@ -55,7 +55,7 @@ impl PistonTable {
         Some(table)
     }
 
-    // The scope of a piston that is defined.
+    // The knobs that a defined piston takes.
     pub fn scope(&self, piston: usize) -> Option<Scope>
         ensures { λ r. ⌜ r ≡ scope-of (now (self .entry) .pistons) piston ⌝ }
     {

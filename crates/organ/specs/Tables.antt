@@ -13,6 +13,6 @@ book-steps b k = mapped (λ q. q .steps) (knob-in b k)
 abbrev pub book-home : Book → ℕ → ℕ
 book-home b k = valueOr (mapped (λ q. q .home) (knob-in b k)) 0
 
--- the scope of a piston, none where the book does not define it
+-- the knobs that a piston takes, none where the book does not define it
 abbrev pub book-scope : Book → ℕ → Option Scope
 book-scope b p = mapped (λ s. record { lowest = s .lowest; highest = s .highest }) (scope-in b p)
