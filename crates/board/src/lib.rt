@@ -1,4 +1,6 @@
 // The relay board: a chest over any chest below, which it plays through its wires.
+#![tactic(auto)]
+
 pub mod board;
 mod changes;
 mod counts;

@@ -1,4 +1,6 @@
 // Stacks of boards over a magnet chest, and lists of steps to play on them.
+#![tactic(auto)]
+
 use board::board::RelayBoard;
 use board::fault::BoardFault;
 use board::wire::Wire;

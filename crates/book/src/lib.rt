@@ -1,4 +1,6 @@
 // Reads organ books: the text in which a fitter describes an organ, and the record that it comes to.
+#![tactic(auto)]
+
 mod asking;
 mod classes;
 mod faults;

@@ -1,4 +1,6 @@
 // Books and what reading them answers: a table of texts, and some books that are too long to write out.
+#![tactic(auto)]
+
 #[cfg(test)]
 mod tests {
     use book::{Board, BookReader};

@@ -1,4 +1,6 @@
 // The chests at the foot of a stack: one that works magnets, and one that sends MIDI.
+#![tactic(auto)]
+
 mod bits;
 pub mod fault;
 mod foot;

@@ -1,4 +1,6 @@
 // Both bottom chests at the edges of their rows, knobs and buffers.
+#![tactic(auto)]
+
 #[cfg(test)]
 mod tests {
     use bottom::magnet::MagnetChest;

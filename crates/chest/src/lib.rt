@@ -1,4 +1,6 @@
 // What a chest is: its faults, its meaning and the calls that every chest answers.
+#![tactic(auto)]
+
 pub mod chest;
 pub mod fault;
 pub mod laws;

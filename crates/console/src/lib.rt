@@ -1,4 +1,6 @@
 // The console: keys, knobs and pistons over any chest, and the law of its record.
+#![tactic(auto)]
+
 pub mod call;
 pub mod console;
 pub mod fault;

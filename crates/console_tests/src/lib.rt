@@ -1,4 +1,6 @@
 // Runs of calls on a console, each with the answer that it must give.
+#![tactic(auto)]
+
 use board::board::RelayBoard;
 use board::wire::Wire;
 use bottom::magnet::MagnetChest;

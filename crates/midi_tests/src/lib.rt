@@ -1,4 +1,6 @@
 // Lines with the messages that a reader finds on them.
+#![tactic(auto)]
+
 #[cfg(test)]
 mod tests {
     use midi::{Message, Reader, messages};

@@ -1,4 +1,6 @@
 // Plays the organ of organ.book from a MIDI line on standard input, and prints what each call came to.
+#![tactic(auto)]
+
 use book::BookReader;
 use organ::listing::Line;
 use recital::{MagnetRecital, fault_line, refusal_line};

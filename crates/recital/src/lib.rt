@@ -1,4 +1,6 @@
 // The parts put together: an organ that is opened from a book and played from a line, and one call for both.
+#![tactic(auto)]
+
 mod faults;
 mod laws;
 mod performing;
