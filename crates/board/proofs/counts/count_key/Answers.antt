@@ -6,7 +6,7 @@ use Rattle.board.specs.Counts.{at_place, one_at}
 use Rattle.board.specs.Sums.{walked_none, walked_all}
 use Rattle.board.proofs.Counting.{wires-len, outlet-within, key_room, key_more}
 use Rattle.board.proofs.counts.count_key.Goals as goal
-use Rattle.board.proofs.counts.count_key.Goals.{in-Some, in-default}
+use Rattle.board.proofs.counts.count_key.Goals.{in-Some, in_default}
 
 met : (to place : ℕ) → meets (Some (to, place)) to place ≡ true
 met to place = grind (arith, nat_tests)
@@ -33,7 +33,7 @@ loop-i-preserved c b q hb hq =
     let more = key_more h c.args.row c.args.key c.args.on b q c.requires.table c.requires.room c.requires.other c.loop-i.i (at_place c.loop-i.table b q) c.loop-i-test.true (c.loop-i.invariant b q hb hq) in
     elim c.match-outlet.branch [
       | in-Some w ↦ more (Some (w.in-Some.to, w.in-Some.place)) (sym c.outlet.ensures ∙ w.in-Some.is) (at_place c.match-outlet.table b q) (ap (λ t. at_place t b q + cond c.args.on 0 (one_at w.in-Some.to w.in-Some.place b q)) w.table-is ∙ w.bump.ensures b q hb hq)
-      | in-default w ↦ more None (sym c.outlet.ensures ∙ w.in-default.is) (at_place c.match-outlet.table b q) (ap (λ t. at_place t b q + cond c.args.on 0 0) w.table-is)
+      | in_default w ↦ more None (sym c.outlet.ensures ∙ w.in_default.is) (at_place c.match-outlet.table b q) (ap (λ t. at_place t b q + cond c.args.on 0 0) w.table-is)
     ]
 
 pub returns : goal.returns

@@ -7,7 +7,7 @@ use Rattle.board.specs.Counts.{at_place, one_at, Moves}
 use Rattle.board.specs.Ways.{lands-below}
 use Rattle.board.proofs.Counting.{place_within, wire_none, wire_stays, wire_all, wire_more, wire_room}
 use Rattle.board.proofs.counts.count_wire.Goals as goal
-use Rattle.board.proofs.counts.count_wire.Goals.{in-Some, in-default}
+use Rattle.board.proofs.counts.count_wire.Goals.{in-Some, in_default}
 
 met : (b q : ℕ) → (eqb b b && eqb q q) ≡ true
 met b q = grind (arith, nat_tests)
@@ -33,7 +33,7 @@ loop-key-preserved c =
     let more = wire_more h c.args.w c.args.up c.loop-key.key c.loop-key.auto.key c.loop-key-test.true in
     elim c.match-lands.branch [
       | in-Some w ↦ more (Some w.in-Some.place) (sym c.lands.ensures ∙ w.in-Some.is) c.args.table.now c.loop-key.table c.match-lands.table c.loop-key.invariant (λ b q hb hq. ap (λ t. at_place t b q + cond c.args.up 0 (one_at c.args.w.to w.in-Some.place b q)) w.table-is ∙ w.bump.ensures b q hb hq)
-      | in-default w ↦ more None (sym c.lands.ensures ∙ w.in-default.is) c.args.table.now c.loop-key.table c.match-lands.table c.loop-key.invariant (wire_stays h c.args.w c.args.up c.loop-key.table c.match-lands.table w.table-is)
+      | in_default w ↦ more None (sym c.lands.ensures ∙ w.in_default.is) c.args.table.now c.loop-key.table c.match-lands.table c.loop-key.invariant (wire_stays h c.args.w c.args.up c.loop-key.table c.match-lands.table w.table-is)
     ]
 
 pub returns : goal.returns

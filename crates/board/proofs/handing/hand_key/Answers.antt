@@ -5,7 +5,7 @@ use Rattle.board.proofs.Counting.{outlet-within}
 use Rattle.board.proofs.Walks.{some_wire-none, handed-none, handed-as}
 use Rattle.board.proofs.Steps.{wire_at, all_wires, key_none, key_put}
 use Rattle.board.proofs.handing.hand_key.Goals as goal
-use Rattle.board.proofs.handing.hand_key.Goals.{in-Some, in-default}
+use Rattle.board.proofs.handing.hand_key.Goals.{in-Some, in_default}
 
 pub loop-i-init : goal.loop-i-init
 loop-i-init g c = handed-none (λ b q. some_wire-none _)
@@ -22,7 +22,7 @@ loop-i-preserved g c =
     let key = c.args.key in
     elim c.match-outlet.branch [
       | in-Some v ↦ key_put r row key c.loop-i.i c.loop-i-test.true c.loop-i.invariant c.match-outlet.below v.set.new.self v.below-is v.in-Some.to v.in-Some.place v.stands.result (sym c.outlet.ensures ∙ v.in-Some.is) v.stands.ensures v.set.ensures.after
-      | in-default v ↦ key_none r row key c.loop-i.i c.loop-i-test.true c.loop-i.invariant c.match-outlet.below v.below-is (sym c.outlet.ensures ∙ v.in-default.is)
+      | in_default v ↦ key_none r row key c.loop-i.i c.loop-i-test.true c.loop-i.invariant c.match-outlet.below v.below-is (sym c.outlet.ensures ∙ v.in_default.is)
     ]
 
 pub returns : goal.returns

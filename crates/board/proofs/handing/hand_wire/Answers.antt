@@ -8,7 +8,7 @@ use Rattle.board.proofs.Counting.{place_within}
 use Rattle.board.proofs.Walks.{handed-none, handed-as}
 use Rattle.board.proofs.Steps.{wire_none, wire_put}
 use Rattle.board.proofs.handing.hand_wire.Goals as goal
-use Rattle.board.proofs.handing.hand_wire.Goals.{in-Some, in-default}
+use Rattle.board.proofs.handing.hand_wire.Goals.{in-Some, in_default}
 
 pub loop-key-init : goal.loop-key-init
 loop-key-init g c =
@@ -27,7 +27,7 @@ loop-key-preserved g c =
     let high = c.loop-key-test.true in
     elim c.match-lands.branch [
       | in-Some v ↦ wire_put r c.args.w c.loop-key.key low high c.loop-key.invariant c.match-lands.below v.set.new.self v.below-is v.in-Some.place v.stands.result (sym c.lands.ensures ∙ v.in-Some.is) v.stands.ensures v.set.ensures.after
-      | in-default v ↦ wire_none r c.args.w c.loop-key.key low high c.loop-key.invariant c.match-lands.below v.below-is (sym c.lands.ensures ∙ v.in-default.is)
+      | in_default v ↦ wire_none r c.args.w c.loop-key.key low high c.loop-key.invariant c.match-lands.below v.below-is (sym c.lands.ensures ∙ v.in_default.is)
     ]
 
 pub returns : goal.returns

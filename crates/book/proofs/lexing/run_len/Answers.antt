@@ -9,5 +9,5 @@ pub returns : goal.returns
 returns c =
     let p = belongs c.args.class in
     let bs = c.args.text.now in
-    let is : c.unwrap-or.result ≡ prefix_len p bs = run_or_all p bs _ _ c.first-outside.ensures c.unwrap-or.ensures in
+    let is : c.unwrap_or.result ≡ prefix_len p bs = run_or_all p bs _ _ c.first_outside.ensures c.unwrap_or.ensures in
     record { value = is; bound = omega (arith, prefix_len-le-length p bs) }

@@ -9,13 +9,13 @@ use Rattle.book.proofs.lines.read_line.Goals.{In-Some}
 
 read : (c : In-Some) (r : Result Form BookFault) → Comes c.in-Some.parts r → some_form r ≡ line_form c.args.line c.args.text.now
 read c r comes =
-    line_shaped c.args.line c.args.text.now c.in-Some.parts r (clean-from _ (c.if-is-some.ensures ∙ ap is_some c.first-outside.ensures)) (false-eqb _ 0 c.if-is-empty.ensures) c.in-Some.ensures comes
+    line_shaped c.args.line c.args.text.now c.in-Some.parts r (clean-from _ (c.if-is_some.ensures ∙ ap is_some c.first_outside.ensures)) (false-eqb _ 0 c.if-is_empty.ensures) c.in-Some.ensures comes
 
-pub returns-in-err-read-form : goal.returns-in-err-read-form
-returns-in-err-read-form c =
+pub returns-in_err-read_form : goal.returns-in_err-read_form
+returns-in_err-read_form c =
     let p = err_from_is_err_and c.from-residual.result c.from-residual.ensures.1 in
-    p.1 ∙ ap Err p.2 ∙ read (goal.at.returns-in-err-read-form c).In-Some (Err c.in-err-read-form.field-0.0) c.in-err-read-form.ensures
+    p.1 ∙ ap Err p.2 ∙ read (goal.at.returns-in_err-read_form c).In-Some (Err c.in_err-read_form.field-0.0) c.in_err-read_form.ensures
 
 pub returns : goal.returns
 returns c =
-    read (goal.at.returns c).In-Some (Ok c.in-ok-read-form.field-0) c.in-ok-read-form.ensures
+    read (goal.at.returns c).In-Some (Ok c.in_ok-read_form.field-0) c.in_ok-read_form.ensures

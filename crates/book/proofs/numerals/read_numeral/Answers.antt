@@ -2,14 +2,14 @@ use Rattle.std.proofs.Common.{None, ◌∙◌}
 use Rattle.book.proofs.Digital.{numeral-minus, minus-zero, minus-some}
 use Rattle.book.proofs.numerals.read_numeral.Goals as goal
 
-pub returns-in-err-n : goal.returns-in-err-n
-returns-in-err-n c =
-    c.from-residual-in-err-n.ensures ∙ numeral-minus c.args.text.now None c.if-first-ne45.false c.in-err-n.ensures.value
+pub returns-in_err-n : goal.returns-in_err-n
+returns-in_err-n c =
+    c.from-residual-in_err-n.ensures ∙ numeral-minus c.args.text.now None c.if-first-ne45.false c.in_err-n.ensures.value
 
 pub returns-then-n-eq0 : goal.returns-then-n-eq0
 returns-then-n-eq0 c =
-    minus-zero c.args.text.now c.in-ok-n.field-0 c.if-first-ne45.false c.in-ok-n.ensures.value c.if-n-eq0.true
+    minus-zero c.args.text.now c.in_ok-n.field-0 c.if-first-ne45.false c.in_ok-n.ensures.value c.if-n-eq0.true
 
 pub returns : goal.returns
 returns c =
-    minus-some c.args.text.now c.in-ok-n.field-0 c.if-first-ne45.false c.in-ok-n.ensures.value c.if-n-eq0.false c.in-ok-n.ensures.bound
+    minus-some c.args.text.now c.in_ok-n.field-0 c.if-first-ne45.false c.in_ok-n.ensures.value c.if-n-eq0.false c.in_ok-n.ensures.bound

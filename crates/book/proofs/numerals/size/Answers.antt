@@ -2,23 +2,23 @@ use Rattle.std.proofs.Common.{sym, ◌∙◌, arith, rules}
 use Rattle.book.proofs.Digital.{value_room, size-bad, size-more, size-done, size-zero}
 use Rattle.book.proofs.numerals.size.Goals as goal
 
-pub overflow-mul-n : goal.overflow-mul-n
-overflow-mul-n c = omega (arith, value_room c.args.digits.now c.loop-b.b-index (omega arith) (omega arith) c.loop-b.invariant.0)
+pub overflow_mul-n : goal.overflow_mul-n
+overflow_mul-n c = omega (arith, value_room c.args.digits.now c.loop-b.b-index (omega arith) (omega arith) c.loop-b.invariant.0)
 
-pub overflow-add-n : goal.overflow-add-n
-overflow-add-n c = omega (arith, value_room c.args.digits.now c.loop-b.b-index (omega arith) (omega arith) c.loop-b.invariant.0)
+pub overflow_add-n : goal.overflow_add-n
+overflow_add-n c = omega (arith, value_room c.args.digits.now c.loop-b.b-index (omega arith) (omega arith) c.loop-b.invariant.0)
 
 pub loop-b-preserved : goal.loop-b-preserved
 loop-b-preserved c =
-    size-more _ _ _ _ c.loop-b-test.true c.loop-b.invariant.0 c.loop-b.invariant.1 (sym c.if-not-is-ascii-digit.ensures.value) c.from.ensures
+    size-more _ _ _ _ c.loop-b-test.true c.loop-b.invariant.0 c.loop-b.invariant.1 (sym c.if-not-is_ascii_digit.ensures.value) c.from.ensures
 
 pub returns-then-count-eq1 : goal.returns-then-count-eq1
 returns-then-count-eq1 c =
     record { value = size-zero c.args.digits.now (omega arith) c.if-digits-eq48.true; bound = omega arith }
 
-pub returns-then-not-is-ascii-digit : goal.returns-then-not-is-ascii-digit
-returns-then-not-is-ascii-digit c =
-    record { value = size-bad _ _ c.loop-b-test.true (sym c.if-not-is-ascii-digit.ensures.value); bound = tt }
+pub returns-then-not-is_ascii_digit : goal.returns-then-not-is_ascii_digit
+returns-then-not-is_ascii_digit c =
+    record { value = size-bad _ _ c.loop-b-test.true (sym c.if-not-is_ascii_digit.ensures.value); bound = tt }
 
 pub returns : goal.returns
 returns c =

@@ -12,26 +12,26 @@ loop-text-init c = start _ _ c.none-numbers.ensures
 
 pub loop-text-smaller : goal.loop-text-smaller
 loop-text-smaller c =
-    let after = c.next-token.new.self.rest.now in
-    let text = c.in-ok-text.ensures.answer.1 ∙ ap (λ t. spelled t ++ after) c.in-Number.is in
+    let after = c.next_token.new.self.rest.now in
+    let text = c.in_ok-text.ensures.answer.1 ∙ ap (λ t. spelled t ++ after) c.in-Number.is in
     omega (arith, ap length text, length-append c.in-Number.text.now after)
 
 pub loop-text-preserved : goal.loop-text-preserved
 loop-text-preserved c =
-    let after = c.next-token.new.self.rest.now in
-    let told = c.in-ok-text.ensures.answer in
-    let z = c.in-ok-read-numeral.field-0 in
+    let after = c.next_token.new.self.rest.now in
+    let told = c.in_ok-text.ensures.answer in
+    let z = c.in_ok-read_numeral.field-0 in
     let fits : SFits w16 z = search rules in
-    go_on _ _ _ _ after _ z _ c.loop-text.invariant (told.2 ∙ ap (λ t. token_before t (pieces after)) c.in-Number.is) (told.1 ∙ ap (λ t. spelled t ++ after) c.in-Number.is) c.in-ok-read-numeral.ensures (to_z-of_z w16 z fits) (c.push.ensures.after _ c.loop-text.invariant.kept)
+    go_on _ _ _ _ after _ z _ c.loop-text.invariant (told.2 ∙ ap (λ t. token_before t (pieces after)) c.in-Number.is) (told.1 ∙ ap (λ t. spelled t ++ after) c.in-Number.is) c.in_ok-read_numeral.ensures (to_z-of_z w16 z fits) (c.push.ensures.after _ c.loop-text.invariant.kept)
 
-pub returns-then-is-empty : goal.returns-then-is-empty
-returns-then-is-empty c =
-    let after = c.next-token.new.self.rest.now in
-    let cut = c.in-ok-text.ensures.answer.2 ∙ ap (λ t. token_before t (pieces after)) c.in-Close.is in
-    finish _ _ _ c.loop-text.invariant (ap numbers_of cut ∙ end_at_close after (true-eqb _ 0 c.if-is-empty.ensures))
+pub returns-then-is_empty : goal.returns-then-is_empty
+returns-then-is_empty c =
+    let after = c.next_token.new.self.rest.now in
+    let cut = c.in_ok-text.ensures.answer.2 ∙ ap (λ t. token_before t (pieces after)) c.in-Close.is in
+    finish _ _ _ c.loop-text.invariant (ap numbers_of cut ∙ end_at_close after (true-eqb _ 0 c.if-is_empty.ensures))
 
-pub returns-else-is-empty : goal.returns-else-is-empty
-returns-else-is-empty c =
-    let after = c.next-token.new.self.rest.now in
-    let cut = c.in-ok-text.ensures.answer.2 ∙ ap (λ t. token_before t (pieces after)) c.in-Close.is in
-    stop _ _ _ c.loop-text.invariant (ap numbers_of cut ∙ none-after_close after (false-eqb _ 0 c.if-is-empty.ensures))
+pub returns-else-is_empty : goal.returns-else-is_empty
+returns-else-is_empty c =
+    let after = c.next_token.new.self.rest.now in
+    let cut = c.in_ok-text.ensures.answer.2 ∙ ap (λ t. token_before t (pieces after)) c.in-Close.is in
+    stop _ _ _ c.loop-text.invariant (ap numbers_of cut ∙ none-after_close after (false-eqb _ 0 c.if-is_empty.ensures))

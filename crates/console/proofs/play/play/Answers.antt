@@ -7,15 +7,15 @@ use Rattle.console.proofs.play.play.Goals as goal
 
 pub loop-call-init : goal.loop-call-init
 loop-call-init g c =
-    (omega (arith, c.in-ok-reserve.ensures.ok), ([], sym (append-nil _), λ s p t. recorded_none t))
+    (omega (arith, c.in_ok-reserve.ensures.ok), ([], sym (append-nil _), λ s p t. recorded_none t))
 
 pub loop-call-preserved : goal.loop-call-preserved
 loop-call-preserved g c =
     let calls = c.args.calls.now in
     let i = c.loop-call.call-index in
     let old = c.loop-call.invariant.1 in
-    let items = c.push-reserved.ensures.items ∙ ap (λ xs. xs ++ c.perform.result ∷ []) old.1 ∙ append_assoc _ old.0 (c.perform.result ∷ []) in (
-      omega (arith, c.push-reserved.ensures.len, c.push-reserved.ensures.capacity, c.loop-call.invariant.0),
+    let items = c.push_reserved.ensures.items ∙ ap (λ xs. xs ++ c.perform.result ∷ []) old.1 ∙ append_assoc _ old.0 (c.perform.result ∷ []) in (
+      omega (arith, c.push_reserved.ensures.len, c.push_reserved.ensures.capacity, c.loop-call.invariant.0),
       (
         old.0 ++ c.perform.result ∷ [],
         items,

@@ -10,5 +10,5 @@ loop-place-preserved g c =
     let m = g.C.Chest.meaning c.args.chest.now in
     let row = c.args.row in
     let place = c.loop-place.place in
-    let reach = reach_is m row c.unwrap-or-reach.result _ c.requires c.reach.ensures c.unwrap-or-reach.ensures in
+    let reach = reach_is m row c.unwrap_or-reach.result _ c.requires c.reach.ensures c.unwrap_or-reach.ensures in
     stepped g.C.Chest.meaning g.C.Chest.settled (λ x. set_after x row place false) c.loop-place.invariant c.set.ensures.after (row_more m none row place false c.requires (omega arith) refl)

@@ -4,7 +4,7 @@ use Rattle.console.specs.Knobs.{steps_of, home_of}
 use Rattle.console.specs.Walks.{knobs_turned}
 use Rattle.console.proofs.Walking.{knob_more, knob_skip, stepped}
 use Rattle.console.proofs.walks.home_knobs.Goals as goal
-use Rattle.console.proofs.walks.home_knobs.Goals.{then-is-some, else-is-some}
+use Rattle.console.proofs.walks.home_knobs.Goals.{then-is_some, else-is_some}
 
 pub loop-knob-preserved : goal.loop-knob-preserved
 loop-knob-preserved g c = λ settled.
@@ -14,11 +14,11 @@ loop-knob-preserved g c = λ settled.
     let knob = c.loop-knob.knob in
     let Done : g.row.C.Denot → Type 0 = λ x. g.C.Chest.settled x × (g.C.Chest.meaning x ≡ knobs_turned m test to (knob + 1)) in
     let tested : test knob ≡ is_some c.steps.result = ap is_some (sym c.steps.ensures.value) in
-    elim c.if-is-some.branch [
-      | then-is-some w ↦
+    elim c.if-is_some.branch [
+      | then-is_some w ↦
           let low : to knob < 16 = omega (arith, w.home.ensures.value, w.home.ensures.bound) in
-          subst Done (sym w.chest-is) (stepped g.C.Chest.meaning g.C.Chest.settled (λ x. turn_after x knob w.home.result) c.loop-knob.invariant w.turn.ensures.after (knob_more m test to knob w.home.result c.loop-knob-test.true low w.home.ensures.value (tested ∙ sym w.if-is-some.ensures)) settled)
-      | else-is-some w ↦
+          subst Done (sym w.chest-is) (stepped g.C.Chest.meaning g.C.Chest.settled (λ x. turn_after x knob w.home.result) c.loop-knob.invariant w.turn.ensures.after (knob_more m test to knob w.home.result c.loop-knob-test.true low w.home.ensures.value (tested ∙ sym w.if-is_some.ensures)) settled)
+      | else-is_some w ↦
           let so_far = c.loop-knob.invariant settled in
-          subst Done (sym w.chest-is) (so_far.0, so_far.1 ∙ knob_skip m test to knob (tested ∙ sym w.if-is-some.ensures))
+          subst Done (sym w.chest-is) (so_far.0, so_far.1 ∙ knob_skip m test to knob (tested ∙ sym w.if-is_some.ensures))
     ]

@@ -14,7 +14,7 @@ returns-in-Ok g c = λ start.
     let keys = keys_in c.args.book.now in
     let ws = vec_items c.args.book.now.wires in
     let stack = c.hang-stack.result.0 in
-    assembles meaning settled keys m (hang_all keys m ws) stack (hangs_as meaning settled m stack (reach_of c.division-reaches.result) keys c.wires.result.now ws c.hang-stack.result.1 (Ok tt) c.division-reaches.ensures c.wires.ensures.items c.in-Ok.is (c.hang-stack.ensures start))
+    assembles meaning settled keys m (hang_all keys m ws) stack (hangs_as meaning settled m stack (reach_of c.division_reaches.result) keys c.wires.result.now ws c.hang-stack.result.1 (Ok tt) c.division_reaches.ensures c.wires.ensures.items c.in-Ok.is (c.hang-stack.ensures start))
 
 pub returns-in-Err : goal.returns-in-Err
 returns-in-Err g c = λ start.
@@ -24,4 +24,4 @@ returns-in-Err g c = λ start.
     let keys = keys_in c.args.book.now in
     let ws = vec_items c.args.book.now.wires in
     let stack = c.hang-stack.result.0 in
-    refuses meaning settled keys m (hang_all keys m ws) stack c.in-Err.refusal (hangs_as meaning settled m stack (reach_of c.division-reaches.result) keys c.wires.result.now ws c.hang-stack.result.1 (Err c.in-Err.refusal) c.division-reaches.ensures c.wires.ensures.items c.in-Err.is (c.hang-stack.ensures start))
+    refuses meaning settled keys m (hang_all keys m ws) stack c.in-Err.refusal (hangs_as meaning settled m stack (reach_of c.division_reaches.result) keys c.wires.result.now ws c.hang-stack.result.1 (Err c.in-Err.refusal) c.division_reaches.ensures c.wires.ensures.items c.in-Err.is (c.hang-stack.ensures start))

@@ -6,7 +6,7 @@ use Rattle.board.specs.Fitting.{fit_answer, lead_of}
 use Rattle.organ.specs.Assembly.{fit_run}
 use Rattle.organ.proofs.Runs.{skip_here, fit_here, stop_here, run_end}
 use Rattle.organ.proofs.assembly.fit_all.Goals as goal
-use Rattle.organ.proofs.assembly.fit_all.Goals.{then-is-on+in-default, else-is-on}
+use Rattle.organ.proofs.assembly.fit_all.Goals.{then-is_on+in_default, else-is_on}
 
 pub returns-in-Err : goal.returns-in-Err
 returns-in-Err g c =
@@ -16,7 +16,7 @@ returns-in-Err g c =
     let given = c.in-Err.ensures in
     let answer = given.answer ∙ (λ j. fit_answer l (meaning (inv.2 j)) (c.offer.ensures j)) in
     record {
-      cases = inv.0 ∙ stop_here c.args.on (meaning c.args.board.now.below) l c.args.wires.now c.loop-wire.wire-index c.loop-wire-test.true c.in-Err.fault (sym c.if-is-on.ensures) (sym answer);
+      cases = inv.0 ∙ stop_here c.args.on (meaning c.args.board.now.below) l c.args.wires.now c.loop-wire.wire-index c.loop-wire-test.true c.in-Err.fault (sym c.if-is_on.ensures) (sym answer);
       reach = ap (λ b. (layout b.wiring).reach) given.same ∙ inv.1;
       below = ap (λ b. b.below) given.same ∙ inv.2;
       settled = λ start. subst (Settled meaning g.C.Chest.settled) (sym given.same) (inv.3 start);
@@ -32,20 +32,20 @@ loop-wire-preserved g c =
     let i = c.loop-wire.wire-index in
     let inv = c.loop-wire.invariant in
     let l = layout c.loop-wire.board.wiring in
-    let next = layout c.if-is-on.board.wiring in
-    elim c.if-is-on.branch [
-      | then-is-on+in-default w ↦
-          let given = w.in-default.ensures in
+    let next = layout c.if-is_on.board.wiring in
+    elim c.if-is_on.branch [
+      | then-is_on+in_default w ↦
+          let given = w.in_default.ensures in
           let answer = given.answer ∙ (λ j. fit_answer l (meaning (inv.2 j)) (w.offer.ensures j)) in
           let added = ap (λ b. layout b.wiring) w.board-is ∙ given.items.1 ∙ ap (λ x. with_wire l (lead_of x)) w.offer.ensures in (
-            inv.0 ∙ fit_here on m l ws i c.loop-wire-test.true next (sym w.if-is-on.ensures) (sym answer) added,
+            inv.0 ∙ fit_here on m l ws i c.loop-wire-test.true next (sym w.if-is_on.ensures) (sym answer) added,
             ap (λ x. x.reach) added ∙ inv.1,
             ap (λ b. b.below) w.board-is ∙ given.items.0 ∙ inv.2,
             λ start.
                 subst (Settled meaning settled) (sym w.board-is) (given.after (inv.3 start)).0,
           )
-      | else-is-on w ↦ (
-        inv.0 ∙ skip_here on m l ws i c.loop-wire-test.true (sym w.if-is-on.ensures) ∙ ap (λ b. fit_run on m (layout b.wiring) (drop (i + 1) ws)) (sym w.board-is),
+      | else-is_on w ↦ (
+        inv.0 ∙ skip_here on m l ws i c.loop-wire-test.true (sym w.if-is_on.ensures) ∙ ap (λ b. fit_run on m (layout b.wiring) (drop (i + 1) ws)) (sym w.board-is),
         ap (λ b. (layout b.wiring).reach) w.board-is ∙ inv.1,
         ap (λ b. b.below) w.board-is ∙ inv.2,
         λ start.

@@ -12,8 +12,8 @@ returns g c = λ start.
     let m = meaning c.args.bottom in
     let ws = c.args.wires.now in
     let s0 = c.new-stops.result in
-    let s1 = c.fit-all-stop.new.board in
+    let s1 = c.fit_all-stop.new.board in
     let c0 = c.new-couplers.result in
-    let c1 = c.fit-all-coupler.new.board in
-    let f = runs keys m ws c.args.reaches s0 s1 c0 c1 refl c.new-stops.ensures.items (c.new-stops.ensures.cleared start).1 (c.new-stops.ensures.after start).0 c.fit-all-stop.ensures.reach c.fit-all-stop.ensures.below c.fit-all-stop.ensures.settled c.new-couplers.ensures.items c.new-couplers.ensures.cleared (λ s. (c.new-couplers.ensures.after s).0) c.fit-all-coupler.ensures.below c.fit-all-coupler.ensures.settled in
-    subst (Hangs meaning g.C.Chest.settled keys m (hang_all keys m ws) c1) (sym c.earlier.ensures) (hangs keys m ws c.args.reaches s0 s1 c0 c1 f c.fit-all-coupler.result c.fit-all-stop.result c.fit-all-coupler.ensures.cases c.fit-all-stop.ensures.cases)
+    let c1 = c.fit_all-coupler.new.board in
+    let f = runs keys m ws c.args.reaches s0 s1 c0 c1 refl c.new-stops.ensures.items (c.new-stops.ensures.cleared start).1 (c.new-stops.ensures.after start).0 c.fit_all-stop.ensures.reach c.fit_all-stop.ensures.below c.fit_all-stop.ensures.settled c.new-couplers.ensures.items c.new-couplers.ensures.cleared (λ s. (c.new-couplers.ensures.after s).0) c.fit_all-coupler.ensures.below c.fit_all-coupler.ensures.settled in
+    subst (Hangs meaning g.C.Chest.settled keys m (hang_all keys m ws) c1) (sym c.earlier.ensures) (hangs keys m ws c.args.reaches s0 s1 c0 c1 f c.fit_all-coupler.result c.fit_all-stop.result c.fit_all-coupler.ensures.cases c.fit_all-stop.ensures.cases)

@@ -8,9 +8,9 @@ loop-byte-preserved c =
     let i = c.loop-byte.byte-index in
     let byte = get_or text i 0 in
     let more = take_more text i 0 c.loop-byte-test.true in (
-      c.push-reserved.ensures.items ∙ ap (λ xs. xs ++ byte ∷ []) c.loop-byte.invariant.0 ∙ append_assoc (vec_items c.args.listing.now) (take i text) (byte ∷ []) ∙ ap (λ xs. vec_items c.args.listing.now ++ xs) (sym more),
-      omega (arith, c.push-reserved.ensures.len, c.loop-byte.invariant.1),
-      c.push-reserved.ensures.capacity ∙ c.loop-byte.invariant.2,
+      c.push_reserved.ensures.items ∙ ap (λ xs. xs ++ byte ∷ []) c.loop-byte.invariant.0 ∙ append_assoc (vec_items c.args.listing.now) (take i text) (byte ∷ []) ∙ ap (λ xs. vec_items c.args.listing.now ++ xs) (sym more),
+      omega (arith, c.push_reserved.ensures.len, c.loop-byte.invariant.1),
+      c.push_reserved.ensures.capacity ∙ c.loop-byte.invariant.2,
     )
 
 pub returns : goal.returns

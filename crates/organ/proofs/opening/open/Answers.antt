@@ -9,4 +9,4 @@ pub returns-in-Ok : goal.returns-in-Ok
 returns-in-Ok g c = λ start.
     let book = c.args.book.now in
     let m = g.C.Chest.meaning c.args.bottom in
-    opens g.C.Chest.meaning g.C.Chest.settled book m c.in-Ok.stack c.new.result c.knob-table.result c.piston-table.result (hang_all (keys_in book) m (vec_items book.wires)) (c.in-Ok.ensures start) c.new.ensures c.knob-table.ensures.steps c.knob-table.ensures.homes c.piston-table.ensures
+    opens g.C.Chest.meaning g.C.Chest.settled book m c.in-Ok.stack c.new.result c.knob_table.result c.piston_table.result (hang_all (keys_in book) m (vec_items book.wires)) (c.in-Ok.ensures start) c.new.ensures c.knob_table.ensures.steps c.knob_table.ensures.homes c.piston_table.ensures

@@ -11,5 +11,5 @@ use Rattle.organ.proofs.opening.open_magnets.Goals as goal
 pub returns : goal.returns
 returns c =
     let book = c.args.book.now in
-    let is : magnet_meaning c.new.result ≡ new_ranks (pipes_in book) = c.new.ensures.value ∙ ap new_ranks c.rank-reaches.ensures in
+    let is : magnet_meaning c.new.result ≡ new_ranks (pipes_in book) = c.new.ensures.value ∙ ap new_ranks c.rank_reaches.ensures in
     subst (λ m. Opens magnet_meaning MagnetSettled book m (hang_all (keys_in book) m (vec_items book.wires)) c.open.result) is (c.open.ensures c.new.ensures.settled)

@@ -18,7 +18,7 @@ loop-i-preserved g c = (
       let ms = c.args.messages.now in
       let i = c.loop-i.i in
       let m = get_or ms i (NoteOff 0 0 0) in
-      let response = ok_so c.respond.result (Responds g.C.Chest.meaning g.C.Chest.settled (action_of m) c.loop-i.console c.respond.new.console (vec_items c.loop-i.listing) (vec_items c.respond.new.listing)) (sym c.if-is-err.ensures.value) c.respond.ensures.answers in
+      let response = ok_so c.respond.result (Responds g.C.Chest.meaning g.C.Chest.settled (action_of m) c.loop-i.console c.respond.new.console (vec_items c.loop-i.listing) (vec_items c.respond.new.listing)) (sym c.if-is_err.ensures.value) c.respond.ensures.answers in
       rw (take_more ms i (NoteOff 0 0 0) c.loop-i-test.true) (answered-more m (c.loop-i.invariant.1 s p t) response),
 )
 

@@ -4,7 +4,7 @@ use Rattle.std.proofs.lemmas.Bool.Decides.{nat_tests}
 use Rattle.console.specs.Knobs.{sound}
 use Rattle.organ.proofs.Filling.{Filled, fill_none, fill_some, filled_all, defined}
 use Rattle.organ.proofs.tables.knob_table.Goals as goal
-use Rattle.organ.proofs.tables.knob_table.Goals.{in-Some, in-default}
+use Rattle.organ.proofs.tables.knob_table.Goals.{in-Some, in_default}
 
 pub loop-k-init : goal.loop-k-init
 loop-k-init c =
@@ -26,11 +26,11 @@ loop-k-preserved c =
           let knob = w.in-Some.knob in
           let given = w.in-Some.ensures in
           let ok : (ltb k 64 && sound knob.steps knob.home) ≡ true = grind (arith, nat_tests, c.loop-k-test.true, given.bound.0, given.bound.1, given.bound.2) in
-          let put = defined w.with-knob.result t c.match-knob.table k knob.steps knob.home ok w.with-knob.ensures (w.table-is ∙ w.unwrap-or-table.ensures) in
+          let put = defined w.with_knob.result t c.match-knob.table k knob.steps knob.home ok w.with_knob.ensures (w.table-is ∙ w.unwrap_or-table.ensures) in
           let next = fill_some t.steps t.homes b k c.loop-k-test.true c.loop-k.invariant knob (sym given.value) given.bound.0 in
           subst (λ x. Filled c.match-knob.table.steps x b (k + 1)) (sym put.1) (subst (λ x. Filled x (set t.homes k knob.home) b (k + 1)) (sym put.0) next)
-      | in-default w ↦
-          let next = fill_none t.steps t.homes b k c.loop-k-test.true c.loop-k.invariant (sym w.in-default.ensures.value) in
+      | in_default w ↦
+          let next = fill_none t.steps t.homes b k c.loop-k-test.true c.loop-k.invariant (sym w.in_default.ensures.value) in
           subst (λ x. Filled x.steps x.homes b (k + 1)) (sym w.table-is) next
     ]
 

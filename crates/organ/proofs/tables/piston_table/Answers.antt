@@ -5,7 +5,7 @@ use Rattle.std.proofs.lemmas.Bool.Decides.{nat_tests}
 use Rattle.console.specs.Pistons.{scope_of, in_range}
 use Rattle.organ.proofs.Filling.{Scoped, scope_more, scopes_all, scoped}
 use Rattle.organ.proofs.tables.piston_table.Goals as goal
-use Rattle.organ.proofs.tables.piston_table.Goals.{in-Some, in-default}
+use Rattle.organ.proofs.tables.piston_table.Goals.{in-Some, in_default}
 
 pub loop-q-init : goal.loop-q-init
 loop-q-init c = ((λ j h. absurd (omega arith)), λ j h. c.new-table.ensures j)
@@ -21,11 +21,11 @@ loop-q-preserved c =
           let s = w.in-Some.scope in
           let given = w.in-Some.ensures in
           let ok : in_range q s.lowest s.highest ≡ true = grind (arith, nat_tests, c.loop-q-test.true, given.bound.0, given.bound.1) in
-          let put = scoped w.with-piston.result c.loop-q.table c.match-scope.table q s.lowest s.highest ok w.with-piston.ensures (w.table-is ∙ w.unwrap-or-table.ensures) in
+          let put = scoped w.with_piston.result c.loop-q.table c.match-scope.table q s.lowest s.highest ok w.with_piston.ensures (w.table-is ∙ w.unwrap_or-table.ensures) in
           scope_more old new b q c.loop-q.invariant (put.0 ∙ ap (option_map (λ x. record { lowest = x.lowest; highest = x.highest })) given.value) put.1
-      | in-default w ↦
+      | in_default w ↦
           let same = ap (λ x. scope_of x.pistons) w.table-is in
-          scope_more old new b q c.loop-q.invariant (ap (λ x. x q) same ∙ c.loop-q.invariant.1 q (omega arith) ∙ ap (option_map (λ x. record { lowest = x.lowest; highest = x.highest })) w.in-default.ensures.value) (λ k ne. ap (λ x. x k) same)
+          scope_more old new b q c.loop-q.invariant (ap (λ x. x q) same ∙ c.loop-q.invariant.1 q (omega arith) ∙ ap (option_map (λ x. record { lowest = x.lowest; highest = x.highest })) w.in_default.ensures.value) (λ k ne. ap (λ x. x k) same)
     ]
 
 pub returns : goal.returns

@@ -34,15 +34,15 @@ returns-in-Err c =
     let b = c.args.book.now in
     let bytes = c.args.line.now in
     let old = vec_items c.args.listing.now in
-    let new = vec_items c.add-to.new.listing in
-    let r = c.add-to.result in
+    let new = vec_items c.add_to.new.listing in
+    let r = c.add_to.result in
     let line = line_bytes (refusal_line c.in-Err.refusal) in
-    let items : new ≡ cond (is_ok r) (old ++ line) old = c.add-to.ensures.items ∙ ap (λ x. cond (is_ok r) (old ++ line_bytes x) old) c.refusal-line.ensures.value in
+    let items : new ≡ cond (is_ok r) (old ++ line) old = c.add_to.ensures.items ∙ ap (λ x. cond (is_ok r) (old ++ line_bytes x) old) c.refusal_line.ensures.value in
     let refusal = refuses magnet_meaning MagnetSettled b (new_ranks (pipes_in b)) (book_hung b) c.in-Err.refusal bytes c.in-Err.ensures.cases in
     let performs : (text : List ℕ) → Judged (Ok b) text → IfOk r (λ x. (given : List ℕ) × (new ≡ old ++ given) × Performs text bytes given) = λ text judged. added r old new line (Performs text bytes) (accepted text bytes line b judged refusal) items in
     record {
       performs = performs;
       items = λ text judged. listed text bytes old new r (performs text judged);
       same = not_added r old new line items;
-      succeeds = λ h. c.add-to.ensures.succeeds (omega arith);
+      succeeds = λ h. c.add_to.ensures.succeeds (omega arith);
     }

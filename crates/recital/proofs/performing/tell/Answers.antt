@@ -12,14 +12,14 @@ pub returns : goal.returns
 returns c =
     let f = c.args.fault in
     let old = vec_items c.args.listing.now in
-    let new = vec_items c.add-to.new.listing in
-    let r = c.add-to.result in
+    let new = vec_items c.add_to.new.listing in
+    let r = c.add_to.result in
     let line = line_bytes (fault_line f) in
-    let items : new ≡ cond (is_ok r) (old ++ line) old = c.add-to.ensures.items ∙ ap (λ x. cond (is_ok r) (old ++ line_bytes x) old) c.fault-line.ensures.value in
+    let items : new ≡ cond (is_ok r) (old ++ line) old = c.add_to.ensures.items ∙ ap (λ x. cond (is_ok r) (old ++ line_bytes x) old) c.fault_line.ensures.value in
     let performs : (text bytes : List ℕ) → Answers (Err f) (read_of text) → Judged (Err f) text → IfOk r (λ x. (given : List ℕ) × (new ≡ old ++ given) × Performs text bytes given) = λ text bytes answers judged. added r old new line (Performs text bytes) (rejected text bytes line f answers judged refl) items in
     record {
       performs = performs;
       items = λ text bytes answers judged. listed text bytes old new r (performs text bytes answers judged);
       same = not_added r old new line items;
-      succeeds = c.add-to.ensures.succeeds;
+      succeeds = c.add_to.ensures.succeeds;
     }

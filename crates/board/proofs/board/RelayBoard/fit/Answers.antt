@@ -9,17 +9,17 @@ use Rattle.board.proofs.Counting.{wires-len}
 use Rattle.board.proofs.Fits.{checks_fail, checks_pass, fit_checks, fit_refused, fit_done, refused_so, free_of, wire_stands}
 use Rattle.board.proofs.board.RelayBoard.fit.Goals as goal
 
-pub returns-in-err-lead : goal.returns-in-err-lead
-returns-in-err-lead g c =
+pub returns-in_err-lead : goal.returns-in_err-lead
+returns-in_err-lead g c =
     let wiring = c.args.self.now.wiring in
     let l = layout wiring in
     let m = g.C.Chest.meaning c.args.self.now.below in
     let w = c.args.wire in
     let p = err_from_is_err_and c.from-residual.result c.from-residual.ensures.1 in
-    let e = c.in-err-lead.field-0.0 in
-    let free : is_free l.register ≡ true = sym c.is-free.ensures ∙ c.if-not-is-free.false in
+    let e = c.in_err-lead.field-0.0 in
+    let free : is_free l.register ≡ true = sym c.is_free.ensures ∙ c.if-not-is_free.false in
     let room : length l.wires < 128 = omega (arith, c.if-self-ge-WIRES.false, wires-len wiring.harness wiring.slots wiring.room) in
-    let answer = fit_checks l m w free room ∙ checks_fail (wire_checks l m w) (lead_of w) tt e (sym c.lead.ensures ∙ c.in-err-lead.was) in
+    let answer = fit_checks l m w free room ∙ checks_fail (wire_checks l m w) (lead_of w) tt e (sym c.lead.ensures ∙ c.in_err-lead.was) in
     record {
       answer = p.1 ∙ ap Err p.2 ∙ sym answer;
       same = refused_so c.from-residual.result refl;
@@ -28,7 +28,7 @@ returns-in-err-lead g c =
     }
 
 pub add-requires : goal.add-requires
-add-requires g c = record { room = c.if-self-ge-WIRES.false; free = free_of c.args.self.now.wiring.harness (sym c.is-free.ensures ∙ c.if-not-is-free.false) }
+add-requires g c = record { room = c.if-self-ge-WIRES.false; free = free_of c.args.self.now.wiring.harness (sym c.is_free.ensures ∙ c.if-not-is_free.false) }
 
 pub returns : goal.returns
 returns g c =
@@ -36,9 +36,9 @@ returns g c =
     let l = layout wiring in
     let m = g.C.Chest.meaning c.args.self.now.below in
     let w = c.args.wire in
-    let free : is_free l.register ≡ true = sym c.is-free.ensures ∙ c.if-not-is-free.false in
+    let free : is_free l.register ≡ true = sym c.is_free.ensures ∙ c.if-not-is_free.false in
     let room : length l.wires < 128 = omega (arith, c.if-self-ge-WIRES.false, wires-len wiring.harness wiring.slots wiring.room) in
-    let pass = checks_pass (wire_checks l m w) (lead_of w) c.in-ok-lead.lead tt (sym c.lead.ensures ∙ c.in-ok-lead.was) in
+    let pass = checks_pass (wire_checks l m w) (lead_of w) c.in_ok-lead.lead tt (sym c.lead.ensures ∙ c.in_ok-lead.was) in
     let lay : layout c.add.new.self ≡ with_wire l (lead_of w) = c.add.ensures ∙ ap (with_wire l) pass.1 in
     let answer = fit_checks l m w free room ∙ pass.0 in
     record {

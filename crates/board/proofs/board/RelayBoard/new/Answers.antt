@@ -10,13 +10,13 @@ use Rattle.board.proofs.board.RelayBoard.new.Goals as goal
 pub returns : goal.returns
 returns g c =
     record {
-      items = c.bare-wiring.ensures ∙ (λ i. record { reach = reach_of c.args.reaches; below = c.reaches-of.ensures i; wires = []; panel = c.positions-of.ensures i; register = none });
+      items = c.bare-wiring.ensures ∙ (λ i. record { reach = reach_of c.args.reaches; below = c.reaches_of.ensures i; wires = []; panel = c.positions_of.ensures i; register = none });
       cleared = λ settled.
           let below = c.clear.ensures settled in
           let m = g.C.Chest.meaning c.args.below in
           (below.0, below.1 ∙ ap (with_register m) (cleared m (g.met.C.Chest.bounded c.args.below)));
       after = λ settled.
           let below = c.clear.ensures settled in
-          let made = new-board (layout c.bare-wiring.result) (g.C.Chest.meaning c.args.below) (g.C.Chest.meaning c.clear.new.below) c.args.reaches c.reaches-of.result c.positions-of.result c.bare-wiring.ensures c.reaches-of.ensures c.positions-of.ensures (g.met.C.Chest.bounded c.args.below) below.1 in
+          let made = new-board (layout c.bare-wiring.result) (g.C.Chest.meaning c.args.below) (g.C.Chest.meaning c.clear.new.below) c.args.reaches c.reaches_of.result c.positions_of.result c.bare-wiring.ensures c.reaches_of.ensures c.positions_of.ensures (g.met.C.Chest.bounded c.args.below) below.1 in
           ((below.0, made.0), made.1);
     }

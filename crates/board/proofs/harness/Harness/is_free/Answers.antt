@@ -8,10 +8,10 @@ use Rattle.board.proofs.harness.Harness.is_free.Goals as goal
 pub loop-row-init : goal.loop-row-init
 loop-row-init c = some-zero (λ r. some 128 (register c.args.self.now r))
 
-pub returns-then-has-key : goal.returns-then-has-key
-returns-then-has-key c =
-    ap not (sym (some-found 16 c.loop-row.row (λ r. some 128 (register c.args.self.now r)) c.loop-row-test.true (sym c.has-key.ensures ∙ c.if-has-key.true)))
+pub returns-then-has_key : goal.returns-then-has_key
+returns-then-has_key c =
+    ap not (sym (some-found 16 c.loop-row.row (λ r. some 128 (register c.args.self.now r)) c.loop-row-test.true (sym c.has_key.ensures ∙ c.if-has_key.true)))
 
 pub loop-row-preserved : goal.loop-row-preserved
 loop-row-preserved c =
-    some_more c.loop-row.row (λ r. some 128 (register c.args.self.now r)) ∙ (λ i. c.loop-row.invariant i || (sym c.has-key.ensures ∙ c.if-has-key.false) i)
+    some_more c.loop-row.row (λ r. some 128 (register c.args.self.now r)) ∙ (λ i. c.loop-row.invariant i || (sym c.has_key.ensures ∙ c.if-has_key.false) i)

@@ -6,8 +6,8 @@ use Rattle.board.specs.Layout.{Layout, layout}
 use Rattle.board.specs.Images.{ways_push_free}
 use Rattle.board.proofs.wiring.Wiring.add.Goals as goal
 
-pub invariant-of-self : goal.invariant-of-self
-invariant-of-self c =
+pub invariant_of-self : goal.invariant_of-self
+invariant_of-self c =
     let h = c.args.self.now.harness in
     let l = layout c.args.self.now in
     let inside : h.len < length h.leads = omega (arith, c.requires.room, c.args.self.now.slots) in

@@ -6,13 +6,13 @@ use Rattle.board.specs.Layout.{Layout, layout}
 use Rattle.board.proofs.Tables.{held-put}
 use Rattle.board.proofs.wiring.Wiring.put.Goals as goal
 
-pub invariant-of-self : goal.invariant-of-self
-invariant-of-self c =
+pub invariant_of-self : goal.invariant_of-self
+invariant_of-self c =
     let h = c.args.self.now.harness in
     let l = layout c.args.self.now in
     let self = c.args.self.now in
     let held = held-put h.reaches h.keys c.args.row c.args.key c.args.on self.manual c.requires.place in
-    (self.slots, (length-set h.keys (128 * c.args.row + c.args.key) c.args.on ∙ self.manual, (self.knobs, (self.room, ((λ b q within. c.count-key.ensures b q within ∙ sym (ap (λ s. ways_to l.below l.wires l.panel s b q) held)), tt)))))
+    (self.slots, (length-set h.keys (128 * c.args.row + c.args.key) c.args.on ∙ self.manual, (self.knobs, (self.room, ((λ b q within. c.count_key.ensures b q within ∙ sym (ap (λ s. ways_to l.below l.wires l.panel s b q) held)), tt)))))
 
 pub returns : goal.returns
 returns c =

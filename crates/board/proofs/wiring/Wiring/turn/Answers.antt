@@ -6,13 +6,13 @@ use Rattle.board.specs.Layout.{Layout, layout}
 use Rattle.board.proofs.Tables.{standing-turned}
 use Rattle.board.proofs.wiring.Wiring.turn.Goals as goal
 
-pub invariant-of-self : goal.invariant-of-self
-invariant-of-self c =
+pub invariant_of-self : goal.invariant_of-self
+invariant_of-self c =
     let h = c.args.self.now.harness in
     let l = layout c.args.self.now in
     let self = c.args.self.now in
     let turned = standing-turned h.positions c.args.knob c.args.to self.knobs c.requires.few in
-    (self.slots, (self.manual, (length-set h.positions c.args.knob c.args.to ∙ self.knobs, (self.room, ((λ b q within. c.count-knob.ensures b q within ∙ sym (ap (λ f. ways_to l.below l.wires f l.register b q) turned)), tt)))))
+    (self.slots, (self.manual, (length-set h.positions c.args.knob c.args.to ∙ self.knobs, (self.room, ((λ b q within. c.count_knob.ensures b q within ∙ sym (ap (λ f. ways_to l.below l.wires f l.register b q) turned)), tt)))))
 
 pub returns : goal.returns
 returns c =

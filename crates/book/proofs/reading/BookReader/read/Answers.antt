@@ -14,37 +14,37 @@ blank-book-requires c =
 pub loop-end-init : goal.loop-end-init
 loop-end-init c = start _ _ c.blank-book.ensures
 
-pub split-at-requires-in-Some : goal.split-at-requires-in-Some
-split-at-requires-in-Some c =
+pub split_at-requires-in-Some : goal.split_at-requires-in-Some
+split_at-requires-in-Some c =
     let at = some-outside inside c.loop-end.rest.now c.in-Some.end c.in-Some.ensures in
-    omega (arith, at.1, c.split-at.ensures.back_len)
+    omega (arith, at.1, c.split_at.ensures.back_len)
 
 pub loop-end-preserved : goal.loop-end-preserved
 loop-end-preserved c =
-    next-line _ _ _ _ _ _ _ _ c.in-Some.end c.loop-end.invariant c.in-Some.ensures c.split-at.ensures.front c.split-at.ensures.back c.split-at-in-Some.ensures.back _ (c.in-ok-add-line.ensures _ c.loop-end.invariant.holds)
+    next-line _ _ _ _ _ _ _ _ c.in-Some.end c.loop-end.invariant c.in-Some.ensures c.split_at.ensures.front c.split_at.ensures.back c.split_at-in-Some.ensures.back _ (c.in_ok-add_line.ensures _ c.loop-end.invariant.holds)
 
 pub loop-end-smaller : goal.loop-end-smaller
 loop-end-smaller c =
-    shorter c.loop-end.book c.loop-end.book _ _ _ _ _ _ c.in-Some.end c.loop-end.invariant c.in-Some.ensures c.split-at.ensures.front c.split-at.ensures.back c.split-at-in-Some.ensures.back
+    shorter c.loop-end.book c.loop-end.book _ _ _ _ _ _ c.in-Some.end c.loop-end.invariant c.in-Some.ensures c.split_at.ensures.front c.split_at.ensures.back c.split_at-in-Some.ensures.back
 
-pub returns-in-err-add-line : goal.returns-in-err-add-line
-returns-in-err-add-line c =
+pub returns-in_err-add_line : goal.returns-in_err-add_line
+returns-in_err-add_line c =
     let p = err_from_is_err_and c.from-residual.result c.from-residual.ensures.1 in
-    let bad = bad_line _ c.add-line.new.self _ _ _ _ _ _ c.in-Some.end c.loop-end.invariant c.in-Some.ensures c.split-at.ensures.front c.split-at.ensures.back refl _ (c.in-err-add-line.ensures _ c.loop-end.invariant.holds) in
+    let bad = bad_line _ c.add_line.new.self _ _ _ _ _ _ c.in-Some.end c.loop-end.invariant c.in-Some.ensures c.split_at.ensures.front c.split_at.ensures.back refl _ (c.in_err-add_line.ensures _ c.loop-end.invariant.holds) in
     let a = subst (λ r. Answers r (read_of c.args.text.now)) (sym (p.1 ∙ ap Err p.2)) (bad_book _ _ c.if-text-gt-MOST-BYTES.false bad) in
     record { answer = a; judged = judged c.args.text.now _ a; accepts = accepts c.args.text.now _ a }
 
-pub overflow-add-line : goal.overflow-add-line
-overflow-add-line c = omega (arith, c.loop-end.invariant.room, c.if-text-gt-MOST-BYTES.false)
+pub overflow_add-line : goal.overflow_add-line
+overflow_add-line c = omega (arith, c.loop-end.invariant.room, c.if-text-gt-MOST-BYTES.false)
 
-pub returns-in-err-read-end : goal.returns-in-err-read-end
-returns-in-err-read-end c =
-    let p = err_from_is_err_and c.from-residual-in-err-read-end.result c.from-residual-in-err-read-end.ensures.1 in
-    let bad = bad_end _ _ _ _ c.loop-end.invariant c.in-default.ensures c.if-text-gt-MOST-BYTES.false _ (c.in-err-read-end.ensures _ _ c.loop-end.invariant.holds) in
+pub returns-in_err-read_end : goal.returns-in_err-read_end
+returns-in_err-read_end c =
+    let p = err_from_is_err_and c.from-residual-in_err-read_end.result c.from-residual-in_err-read_end.ensures.1 in
+    let bad = bad_end _ _ _ _ c.loop-end.invariant c.in_default.ensures c.if-text-gt-MOST-BYTES.false _ (c.in_err-read_end.ensures _ _ c.loop-end.invariant.holds) in
     let a = subst (λ r. Answers r (read_of c.args.text.now)) (sym (p.1 ∙ ap Err p.2)) bad in
     record { answer = a; judged = judged c.args.text.now _ a; accepts = accepts c.args.text.now _ a }
 
 pub returns : goal.returns
 returns c =
-    let a = good_end _ _ _ _ c.loop-end.invariant c.in-default.ensures c.if-text-gt-MOST-BYTES.false _ (c.in-ok-read-end.ensures _ _ c.loop-end.invariant.holds) in
+    let a = good_end _ _ _ _ c.loop-end.invariant c.in_default.ensures c.if-text-gt-MOST-BYTES.false _ (c.in_ok-read_end.ensures _ _ c.loop-end.invariant.holds) in
     record { answer = a; judged = judged c.args.text.now (Ok c.loop-end.book) a; accepts = accepts c.args.text.now (Ok c.loop-end.book) a }

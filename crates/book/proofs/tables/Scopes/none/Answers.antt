@@ -4,8 +4,8 @@ use Rattle.std.proofs.lemmas.Bool.{cond-false}
 use Rattle.book.specs.Limits.{ordered}
 use Rattle.book.proofs.tables.Scopes.none.Goals as goal
 
-pub invariant-of-result : goal.invariant-of-result
-invariant-of-result c = (λ k in'. (λ i. ordered (get_or-replicate 40 k 0 0 in' i) (get_or-replicate 40 k 0 0 in' i)), tt)
+pub invariant_of-result : goal.invariant_of-result
+invariant_of-result c = (λ k in'. (λ i. ordered (get_or-replicate 40 k 0 0 in' i) (get_or-replicate 40 k 0 0 in' i)), tt)
 
 pub returns : goal.returns
 returns c = λ j in'. cond-false _ _ _ (get_or-replicate 40 j false false in')

@@ -8,8 +8,8 @@ use Rattle.bottom.proofs.bits.Bits.strobe.Goals as goal
 pub loop-i-init : goal.loop-i-init
 loop-i-init c = (sym (total-none _), omega arith)
 
-pub overflow-add-count : goal.overflow-add-count
-overflow-add-count c =
+pub overflow_add-count : goal.overflow_add-count
+overflow_add-count c =
     let a : get_or c.args.self.now.speaking c.loop-i.i 0 < 256 = omega arith in
     let b : get_or c.args.self.now.set c.loop-i.i 0 < 256 = omega arith in
     omega (arith, ones_byte_le _ _ a b)

@@ -5,8 +5,8 @@ use Rattle.bottom.proofs.Kept.{panel_zero}
 use Rattle.bottom.proofs.Tables.{zeros, shown-zeros}
 use Rattle.bottom.proofs.foot.Foot.new.Goals as goal
 
-pub invariant-of-result : goal.invariant-of-result
-invariant-of-result c = (
+pub invariant_of-result : goal.invariant_of-result
+invariant_of-result c = (
   (λ r. omega (arith, c.capped.ensures r)),
   ((λ k. omega (arith, zeros 64 k)), ((λ r p h. absurd (both_ways _ (ap (λ (s : Places). s r p) shown-zeros) h)), (lit< tt, tt))),
 )

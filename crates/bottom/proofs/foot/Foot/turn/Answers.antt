@@ -2,7 +2,7 @@ use Rattle.std.proofs.Common.{arith}
 use Rattle.bottom.proofs.Kept.{set_below}
 use Rattle.bottom.proofs.foot.Foot.turn.Goals as goal
 
-pub invariant-of-self : goal.invariant-of-self
-invariant-of-self c =
+pub invariant_of-self : goal.invariant_of-self
+invariant_of-self c =
     let old = c.args.self.now in
     (old.low, (set_below _ _ _ 16 (omega arith) (omega arith) old.stands, (old.inside, (old.counted, tt))))

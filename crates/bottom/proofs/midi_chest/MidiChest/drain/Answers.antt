@@ -10,9 +10,9 @@ loop-at-init c = (omega arith, refl, λ start buffer u. u)
 pub loop-at-preserved : goal.loop-at-preserved
 loop-at-preserved c =
     let kept = c.loop-at.invariant.1 in (
-      omega (arith, c.drain-byte-written.ensures.bound),
-      c.drain-byte-written.ensures.same ∙ kept,
-      goes_then _ _ _ _ _ _ _ _ _ _ _ _ _ _ _ _ c.loop-at.invariant.2 c.drain-byte-written.ensures.after (ap (λ f. shown f.bits.speaking) kept) refl (omega arith),
+      omega (arith, c.drain_byte-written.ensures.bound),
+      c.drain_byte-written.ensures.same ∙ kept,
+      goes_then _ _ _ _ _ _ _ _ _ _ _ _ _ _ _ _ c.loop-at.invariant.2 c.drain_byte-written.ensures.after (ap (λ f. shown f.bits.speaking) kept) refl (omega arith),
     )
 
 pub returns-after-loop-at : goal.returns-after-loop-at

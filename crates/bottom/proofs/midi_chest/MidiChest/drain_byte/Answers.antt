@@ -18,9 +18,9 @@ loop-bit-init c =
 pub loop-bit-preserved : goal.loop-bit-preserved
 loop-bit-preserved c =
     let kept = c.loop-bit.invariant.1 in (
-      omega (arith, c.drain-place-written.ensures.bound),
-      c.drain-place-written.ensures.same ∙ kept,
-      goes_then _ _ _ _ _ _ _ _ _ _ _ _ _ _ _ _ c.loop-bit.invariant.2 c.drain-place-written.ensures.after (ap (λ f. shown f.bits.speaking) kept) (omega arith) (omega arith),
+      omega (arith, c.drain_place-written.ensures.bound),
+      c.drain_place-written.ensures.same ∙ kept,
+      goes_then _ _ _ _ _ _ _ _ _ _ _ _ _ _ _ _ c.loop-bit.invariant.2 c.drain_place-written.ensures.after (ap (λ f. shown f.bits.speaking) kept) (omega arith) (omega arith),
     )
 
 pub returns : goal.returns

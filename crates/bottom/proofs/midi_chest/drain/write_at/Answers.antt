@@ -4,4 +4,4 @@ use Rattle.bottom.proofs.midi_chest.drain.write_at.Goals as goal
 
 pub returns : goal.returns
 returns c =
-    record { items = put_mid-paste c.args.at (c.args.at + 3 - c.args.at) _ _ c.args.bytes 3 c.copy-from-slice.ensures.after (omega arith) (omega arith) }
+    record { items = put_mid-paste c.args.at (c.args.at + 3 - c.args.at) _ _ c.args.bytes 3 c.copy_from_slice.ensures.after (omega arith) (omega arith) }

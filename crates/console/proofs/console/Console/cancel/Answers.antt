@@ -10,6 +10,6 @@ pub returns : goal.returns
 returns g c = λ s p t.
     let self = c.args.self.now in
     let m = g.C.Chest.meaning self.chest in
-    let turned = c.home-knobs.ensures t.steady in
+    let turned = c.home_knobs.ensures t.steady in
     let home = homed-is m s self.knobs.steps self.knobs.homes p.panel (ap (λ x. x.steps) t.setup) (ap (λ x. x.home) t.setup) t.agrees.panel in
-    panel-follows g.met.C.Chest.quiet Cancel c.strobe.result self.keys c.home-knobs.new.chest c.strobe.new.self t refl refl c.strobe.ensures.after c.strobe.ensures.answer (homed s p.panel) refl refl (turned.0, turned.1 ∙ home)
+    panel-follows g.met.C.Chest.quiet Cancel c.strobe.result self.keys c.home_knobs.new.chest c.strobe.new.self t refl refl c.strobe.ensures.after c.strobe.ensures.answer (homed s p.panel) refl refl (turned.0, turned.1 ∙ home)

@@ -19,6 +19,6 @@ pub returns : goal.returns
 returns g c =
     let d = c.args.division in
     record {
-      follows = λ s p t. row_follows g.met.C.Chest.quiet (Clear d) c.strobe.result c.clear.new.self c.show-division.new.chest c.strobe.new.self t (grind (arith, nat_tests)) refl c.strobe.ensures.after c.strobe.ensures.answer (cleared p.keys d) d (g.met.C.Chest.bounded c.args.self.now.chest) refl (c.clear.ensures ∙ ap (λ x. cleared x d) t.keys) (held-cleared p.keys d t.sane.held) (others_cleared p.keys d) (fewer_cleared p.keys d) c.show-division.ensures;
+      follows = λ s p t. row_follows g.met.C.Chest.quiet (Clear d) c.strobe.result c.clear.new.self c.show_division.new.chest c.strobe.new.self t (grind (arith, nat_tests)) refl c.strobe.ensures.after c.strobe.ensures.answer (cleared p.keys d) d (g.met.C.Chest.bounded c.args.self.now.chest) refl (c.clear.ensures ∙ ap (λ x. cleared x d) t.keys) (held-cleared p.keys d t.sane.held) (others_cleared p.keys d) (fewer_cleared p.keys d) c.show_division.ensures;
       same = tt;
     }

@@ -9,17 +9,17 @@ use Rattle.console.proofs.Steps.{refused_follows, unchanged}
 use Rattle.console.proofs.Follow.{key_refused, key_follows, others_lifted}
 use Rattle.console.proofs.console.Console.lift.Goals as goal
 
-pub returns-in-err-check-key : goal.returns-in-err-check-key
-returns-in-err-check-key g c =
+pub returns-in_err-check_key : goal.returns-in_err-check_key
+returns-in_err-check_key g c =
     let e = err_from_is_err_and c.from-residual.result c.from-residual.ensures.1 in
     record {
-      follows = λ s p t. key_refused g.met.C.Chest.quiet (Lift c.args.division c.args.key) c.args.division c.args.key _ c.in-err-check-key.field-0.0 c.from-residual.result t refl (e.1 ∙ ap Err e.2) c.in-err-check-key.ensures.answer;
+      follows = λ s p t. key_refused g.met.C.Chest.quiet (Lift c.args.division c.args.key) c.args.division c.args.key _ c.in_err-check_key.field-0.0 c.from-residual.result t refl (e.1 ∙ ap Err e.2) c.in_err-check_key.ensures.answer;
       same = unchanged c.from-residual.result c.args.self.now;
     }
 
-pub returns-then-not-is-down : goal.returns-then-not-is-down
-returns-then-not-is-down g c =
-    let inside = c.in-ok-check-key.ensures.inside in
+pub returns-then-not-is_down : goal.returns-then-not-is_down
+returns-then-not-is_down g c =
+    let inside = c.in_ok-check_key.ensures.inside in
     record {
       follows = λ s p t.
           let reach = ap (λ x. x.reach c.args.division) t.setup in
@@ -32,7 +32,7 @@ pub returns : goal.returns
 returns g c =
     let d = c.args.division in
     let k = c.args.key in
-    let inside = c.in-ok-check-key.ensures.inside in
+    let inside = c.in_ok-check_key.ensures.inside in
     record {
       follows = λ s p t.
           let reach = ap (λ x. x.reach d) t.setup in

@@ -21,6 +21,6 @@ returns g c =
     let on = c.args.on in
     let to : Keys → Keys = λ x. cond on (sustain_begun x d) (sustain_ended x d) in
     record {
-      follows = λ s p t. row_follows g.met.C.Chest.quiet (Sustain d on) c.strobe.result c.switch-sustain.new.self c.show-division.new.chest c.strobe.new.self t (grind (arith, nat_tests)) refl c.strobe.ensures.after c.strobe.ensures.answer (to p.keys) d (g.met.C.Chest.bounded c.args.self.now.chest) refl (c.switch-sustain.ensures ∙ ap to t.keys) (held-sustain p.keys d on t.sane.held) (others_sustain p.keys d on) (fewer_sustain p.keys d on) c.show-division.ensures;
+      follows = λ s p t. row_follows g.met.C.Chest.quiet (Sustain d on) c.strobe.result c.switch_sustain.new.self c.show_division.new.chest c.strobe.new.self t (grind (arith, nat_tests)) refl c.strobe.ensures.after c.strobe.ensures.answer (to p.keys) d (g.met.C.Chest.bounded c.args.self.now.chest) refl (c.switch_sustain.ensures ∙ ap to t.keys) (held-sustain p.keys d on t.sane.held) (others_sustain p.keys d on) (fewer_sustain p.keys d on) c.show_division.ensures;
       same = tt;
     }

@@ -10,12 +10,12 @@ use Rattle.console.proofs.Follow.{panel-follows}
 use Rattle.console.proofs.Panels.{knob_passes, knob_fails}
 use Rattle.console.proofs.console.Console.turn.Goals as goal
 
-pub returns-in-default : goal.returns-in-default
-returns-in-default g c =
+pub returns-in_default : goal.returns-in_default
+returns-in_default g c =
     let k = c.args.knob in
     let q = c.args.position in
     record {
-      follows = λ s p t. refused_follows g.met.C.Chest.quiet (Turn k q) (Knob k) _ t refl (ap (λ o. knob_check o k q) (sym (ap (λ x. x.steps k) t.setup) ∙ sym c.in-default.ensures.value));
+      follows = λ s p t. refused_follows g.met.C.Chest.quiet (Turn k q) (Knob k) _ t refl (ap (λ o. knob_check o k q) (sym (ap (λ x. x.steps k) t.setup) ∙ sym c.in_default.ensures.value));
       same = refl;
     }
 

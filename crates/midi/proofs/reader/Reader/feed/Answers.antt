@@ -3,8 +3,8 @@ use Rattle.midi.proofs.Lines.{feeds_step}
 use Rattle.midi.proofs.States.{line_to, fed_sound, fed_range}
 use Rattle.midi.proofs.reader.Reader.feed.Goals as goal
 
-pub invariant-of-self : goal.invariant-of-self
-invariant-of-self c = (fed_sound _ _ c.args.byte _ c.feed.ensures.value c.args.self.now.ok, tt)
+pub invariant_of-self : goal.invariant_of-self
+invariant_of-self c = (fed_sound _ _ c.args.byte _ c.feed.ensures.value c.args.self.now.ok, tt)
 
 pub returns : goal.returns
 returns c =

@@ -15,8 +15,8 @@ loop-byte-preserved c =
     let i = c.loop-byte.byte-index in
     let h : i < length bs = omega arith in
     let so_far = c.loop-byte.invariant.1 in
-    let items = grown (vec_items c.reserve.new.self) (handed s (take i bs)) (option_to_list (step t (get_or bs i 0)).0) c.loop-byte.invariant.0 c.feed-into.ensures.items (handed-more s t bs i h so_far) in
-    (items, c.feed-into.ensures.after ∙ state_more s t bs i h so_far, omega arith)
+    let items = grown (vec_items c.reserve.new.self) (handed s (take i bs)) (option_to_list (step t (get_or bs i 0)).0) c.loop-byte.invariant.0 c.feed_into.ensures.items (handed-more s t bs i h so_far) in
+    (items, c.feed_into.ensures.after ∙ state_more s t bs i h so_far, omega arith)
 
 pub returns : goal.returns
 returns c =

@@ -8,8 +8,8 @@ use Rattle.recital.proofs.playing.Recital.play.Goals as goal
 
 pub loop-byte-init : goal.loop-byte-init
 loop-byte-init g c = (
-  omega (arith, c.in-ok-make-room.ensures.cases),
-  goes_none c.args.self.now (vec_items c.make-room.new.listing),
+  omega (arith, c.in_ok-make_room.ensures.cases),
+  goes_none c.args.self.now (vec_items c.make_room.new.listing),
 )
 
 pub loop-byte-preserved : goal.loop-byte-preserved
@@ -26,7 +26,7 @@ returns g c =
     let old = vec_items c.args.listing.now in
     let new = vec_items c.loop-byte.listing in
     let played = rw (take_all c.loop-byte.byte-index bytes c.loop-byte-test.false) at c.loop-byte.invariant.1 in
-    let goes : GoesOn g.C.Chest.meaning g.C.Chest.settled c.args.self.now c.loop-byte.self bytes old new = subst (λ xs. GoesOn g.C.Chest.meaning g.C.Chest.settled c.args.self.now c.loop-byte.self bytes xs new) c.make-room.ensures.items played in
+    let goes : GoesOn g.C.Chest.meaning g.C.Chest.settled c.args.self.now c.loop-byte.self bytes old new = subst (λ xs. GoesOn g.C.Chest.meaning g.C.Chest.settled c.args.self.now c.loop-byte.self bytes xs new) c.make_room.ensures.items played in
     record {
       law = goes;
       items = λ text line u. lists_on c.args.self.now c.loop-byte.self bytes old new text line goes u;
