@@ -29,8 +29,8 @@ def main():
             for n in names:
                 if n.endswith(".rt"):
                     with open(os.path.join(folder, n), encoding="utf-8") as f:
-                        words.update(w for w in re.findall(r"\b[a-z]\w*\b", f.read()) if "_" in w)
-        words |= {"is_some", "is_none", "is_ok", "is_err", "unwrap_or", "as_slice", "push_reserved", "wrapping_add", "saturating_mul"}
+                        words.update(w for w in re.findall(r"\b[A-Za-z]\w*\b", f.read()) if "_" in w)
+        words |= {"is_some", "is_none", "is_ok", "is_err", "unwrap_or", "from_residual", "as_slice", "push_reserved", "wrapping_add", "saturating_mul"}
         words = sorted(words, key=len, reverse=True)
         pairs = [(re.compile(r"(?<![\w'])" + re.escape(w.replace("_", "-")) + r"(?![\w'])"), w) for w in words]
         for folder, _, names in os.walk(os.path.join("crates", crate, "proofs")):
@@ -44,9 +44,14 @@ def main():
                 for a, b in FIXED:
                     new = re.sub(a, b, new)
 
+                own = set()
+                for path, items in re.findall(r"(?m)^use (\S+?)\.\{([^}]*)\}", text):
+                    if not path.endswith((".Goals", ".Given")):
+                        own.update(x.strip() for x in items.split(","))
+
                 def token(m):
                     word = m[0]
-                    if "-" not in word:
+                    if "-" not in word or word in own:
                         return word
                     for a, b in pairs:
                         word = a.sub(b, word)

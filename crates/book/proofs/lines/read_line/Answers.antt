@@ -13,7 +13,7 @@ read c r comes =
 
 pub returns-in_err-read_form : goal.returns-in_err-read_form
 returns-in_err-read_form c =
-    let p = err_from_is_err_and c.from-residual.result c.from-residual.ensures.1 in
+    let p = err_from_is_err_and c.from_residual.result c.from_residual.ensures.1 in
     p.1 ∙ ap Err p.2 ∙ read (goal.at.returns-in_err-read_form c).In-Some (Err c.in_err-read_form.field-0.0) c.in_err-read_form.ensures
 
 pub returns : goal.returns

@@ -4,7 +4,7 @@ use Rattle.book.proofs.numerals.read_numeral.Goals as goal
 
 pub returns-in_err-n : goal.returns-in_err-n
 returns-in_err-n c =
-    c.from-residual-in_err-n.ensures ∙ numeral-minus c.args.text.now None c.if-first-ne45.false c.in_err-n.ensures.value
+    c.from_residual-in_err-n.ensures ∙ numeral-minus c.args.text.now None c.if-first-ne45.false c.in_err-n.ensures.value
 
 pub returns-then-n-eq0 : goal.returns-then-n-eq0
 returns-then-n-eq0 c =

@@ -15,7 +15,7 @@ front c =
 
 pub returns-in_err-numbers : goal.returns-in_err-numbers
 returns-in_err-numbers c =
-    subst (λ r. Shapes c.args.line r (shape_of c.args.text.now)) (sym c.from-residual-in_err-numbers.ensures)
+    subst (λ r. Shapes c.args.line r (shape_of c.args.text.now)) (sym c.from_residual-in_err-numbers.ensures)
     (shape_none c.args.line c.args.text.now _ _ (front (goal.at.returns-in_err-numbers c).In-Word) c.in_err-numbers.ensures)
 
 pub returns : goal.returns

@@ -15,15 +15,15 @@ returns-in_err-lead g c =
     let l = layout wiring in
     let m = g.C.Chest.meaning c.args.self.now.below in
     let w = c.args.wire in
-    let p = err_from_is_err_and c.from-residual.result c.from-residual.ensures.1 in
+    let p = err_from_is_err_and c.from_residual.result c.from_residual.ensures.1 in
     let e = c.in_err-lead.field-0.0 in
     let free : is_free l.register ≡ true = sym c.is_free.ensures ∙ c.if-not-is_free.false in
     let room : length l.wires < 128 = omega (arith, c.if-self-ge-WIRES.false, wires-len wiring.harness wiring.slots wiring.room) in
     let answer = fit_checks l m w free room ∙ checks_fail (wire_checks l m w) (lead_of w) tt e (sym c.lead.ensures ∙ c.in_err-lead.was) in
     record {
       answer = p.1 ∙ ap Err p.2 ∙ sym answer;
-      same = refused_so c.from-residual.result refl;
-      items = IfOk-from_err c.from-residual.result _ c.from-residual.ensures.0;
+      same = refused_so c.from_residual.result refl;
+      items = IfOk-from_err c.from_residual.result _ c.from_residual.ensures.0;
       after = λ settled. (settled, sym (fit_refused l m w e answer));
     }
 

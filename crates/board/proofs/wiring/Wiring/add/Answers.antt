@@ -12,7 +12,13 @@ invariant_of-self c =
     let l = layout c.args.self.now in
     let inside : h.len < length h.leads = omega (arith, c.requires.room, c.args.self.now.slots) in
     let more = take_more_set h.leads h.len c.args.lead inside in
-    (length-set h.leads h.len c.args.lead ∙ c.args.self.now.slots, (c.args.self.now.manual, (c.args.self.now.knobs, (omega (arith, c.requires.room), ((λ b q within. c.args.self.now.exact b q within ∙ sym (ap (λ ws. ways_to l.below ws l.panel l.register b q) more ∙ ways_push_free l.below l.wires c.args.lead l.panel l.register b q c.requires.free)), tt)))))
+    record {
+      slots = length-set h.leads h.len c.args.lead ∙ c.args.self.now.slots;
+      manual = c.args.self.now.manual;
+      knobs = c.args.self.now.knobs;
+      room = omega (arith, c.requires.room);
+      exact = λ b q within. c.args.self.now.exact b q within ∙ sym (ap (λ ws. ways_to l.below ws l.panel l.register b q) more ∙ ways_push_free l.below l.wires c.args.lead l.panel l.register b q c.requires.free);
+    }
 
 pub returns : goal.returns
 returns c =

@@ -6,7 +6,15 @@ use Rattle.board.proofs.Tables.{same_everywhere, held_none}
 use Rattle.board.proofs.wiring.Wiring.bare.Goals as goal
 
 pub invariant_of-result : goal.invariant_of-result
-invariant_of-result c = let long : length c.args.positions ≡ 64 = omega arith in (refl, (refl, (long, (omega arith, ((λ b q within. same_everywhere 2048 (128 * b + q) 0), tt)))))
+invariant_of-result c =
+    let long : length c.args.positions ≡ 64 = omega arith in
+    record {
+      slots = refl;
+      manual = refl;
+      knobs = long;
+      room = omega arith;
+      exact = λ b q within. same_everywhere 2048 (128 * b + q) 0;
+    }
 
 pub returns : goal.returns
 returns c =

@@ -12,7 +12,13 @@ invariant_of-self c =
     let l = layout c.args.self.now in
     let self = c.args.self.now in
     let held = held-put h.reaches h.keys c.args.row c.args.key c.args.on self.manual c.requires.place in
-    (self.slots, (length-set h.keys (128 * c.args.row + c.args.key) c.args.on ∙ self.manual, (self.knobs, (self.room, ((λ b q within. c.count_key.ensures b q within ∙ sym (ap (λ s. ways_to l.below l.wires l.panel s b q) held)), tt)))))
+    record {
+      slots = self.slots;
+      manual = length-set h.keys (128 * c.args.row + c.args.key) c.args.on ∙ self.manual;
+      knobs = self.knobs;
+      room = self.room;
+      exact = λ b q within. c.count_key.ensures b q within ∙ sym (ap (λ s. ways_to l.below l.wires l.panel s b q) held);
+    }
 
 pub returns : goal.returns
 returns c =

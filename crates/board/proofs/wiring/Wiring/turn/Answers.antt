@@ -12,7 +12,13 @@ invariant_of-self c =
     let l = layout c.args.self.now in
     let self = c.args.self.now in
     let turned = standing-turned h.positions c.args.knob c.args.to self.knobs c.requires.few in
-    (self.slots, (self.manual, (length-set h.positions c.args.knob c.args.to ∙ self.knobs, (self.room, ((λ b q within. c.count_knob.ensures b q within ∙ sym (ap (λ f. ways_to l.below l.wires f l.register b q) turned)), tt)))))
+    record {
+      slots = self.slots;
+      manual = self.manual;
+      knobs = length-set h.positions c.args.knob c.args.to ∙ self.knobs;
+      room = self.room;
+      exact = λ b q within. c.count_knob.ensures b q within ∙ sym (ap (λ f. ways_to l.below l.wires f l.register b q) turned);
+    }
 
 pub returns : goal.returns
 returns c =

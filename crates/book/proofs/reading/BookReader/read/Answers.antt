@@ -29,22 +29,22 @@ loop-end-smaller c =
 
 pub returns-in_err-add_line : goal.returns-in_err-add_line
 returns-in_err-add_line c =
-    let p = err_from_is_err_and c.from-residual.result c.from-residual.ensures.1 in
+    let p = err_from_is_err_and c.from_residual.result c.from_residual.ensures.1 in
     let bad = bad_line _ c.add_line.new.self _ _ _ _ _ _ c.in-Some.end c.loop-end.invariant c.in-Some.ensures c.split_at.ensures.front c.split_at.ensures.back refl _ (c.in_err-add_line.ensures _ c.loop-end.invariant.holds) in
-    let a = subst (λ r. Answers r (read_of c.args.text.now)) (sym (p.1 ∙ ap Err p.2)) (bad_book _ _ c.if-text-gt-MOST-BYTES.false bad) in
+    let a = subst (λ r. Answers r (read_of c.args.text.now)) (sym (p.1 ∙ ap Err p.2)) (bad_book _ _ c.if-text-gt-MOST_BYTES.false bad) in
     record { answer = a; judged = judged c.args.text.now _ a; accepts = accepts c.args.text.now _ a }
 
 pub overflow_add-line : goal.overflow_add-line
-overflow_add-line c = omega (arith, c.loop-end.invariant.room, c.if-text-gt-MOST-BYTES.false)
+overflow_add-line c = omega (arith, c.loop-end.invariant.room, c.if-text-gt-MOST_BYTES.false)
 
 pub returns-in_err-read_end : goal.returns-in_err-read_end
 returns-in_err-read_end c =
-    let p = err_from_is_err_and c.from-residual-in_err-read_end.result c.from-residual-in_err-read_end.ensures.1 in
-    let bad = bad_end _ _ _ _ c.loop-end.invariant c.in_default.ensures c.if-text-gt-MOST-BYTES.false _ (c.in_err-read_end.ensures _ _ c.loop-end.invariant.holds) in
+    let p = err_from_is_err_and c.from_residual-in_err-read_end.result c.from_residual-in_err-read_end.ensures.1 in
+    let bad = bad_end _ _ _ _ c.loop-end.invariant c.in_default.ensures c.if-text-gt-MOST_BYTES.false _ (c.in_err-read_end.ensures _ _ c.loop-end.invariant.holds) in
     let a = subst (λ r. Answers r (read_of c.args.text.now)) (sym (p.1 ∙ ap Err p.2)) bad in
     record { answer = a; judged = judged c.args.text.now _ a; accepts = accepts c.args.text.now _ a }
 
 pub returns : goal.returns
 returns c =
-    let a = good_end _ _ _ _ c.loop-end.invariant c.in_default.ensures c.if-text-gt-MOST-BYTES.false _ (c.in_ok-read_end.ensures _ _ c.loop-end.invariant.holds) in
+    let a = good_end _ _ _ _ c.loop-end.invariant c.in_default.ensures c.if-text-gt-MOST_BYTES.false _ (c.in_ok-read_end.ensures _ _ c.loop-end.invariant.holds) in
     record { answer = a; judged = judged c.args.text.now (Ok c.loop-end.book) a; accepts = accepts c.args.text.now (Ok c.loop-end.book) a }

@@ -75,8 +75,8 @@ returns-in-Piston c =
           };
     }
 
-pub returns-else-len-ge-MOST-WIRES : goal.returns-else-len-ge-MOST-WIRES
-returns-else-len-ge-MOST-WIRES c =
+pub returns-else-len-ge-MOST_WIRES : goal.returns-else-len-ge-MOST_WIRES
+returns-else-len-ge-MOST_WIRES c =
     let is = c.in-Wire.is in
     record {
       answer = λ es h.

@@ -5,4 +5,4 @@ use Rattle.book.proofs.tables.Knobs.give.Goals as goal
 
 pub invariant_of-self : goal.invariant_of-self
 invariant_of-self c =
-    (pair_set (λ s h. sound s h ≡ true) c.args.self.now.steps c.args.self.now.homes 64 c.args.at c.args.knob.steps c.args.knob.home (omega arith) (omega arith) c.requires.1.0 c.args.self.now.fits, tt)
+    record { fits = pair_set (λ s h. sound s h ≡ true) c.args.self.now.steps c.args.self.now.homes 64 c.args.at c.args.knob.steps c.args.knob.home (omega arith) (omega arith) c.requires.1.0 c.args.self.now.fits }

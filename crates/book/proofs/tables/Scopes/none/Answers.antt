@@ -5,7 +5,7 @@ use Rattle.book.specs.Limits.{ordered}
 use Rattle.book.proofs.tables.Scopes.none.Goals as goal
 
 pub invariant_of-result : goal.invariant_of-result
-invariant_of-result c = (λ k in'. (λ i. ordered (get_or-replicate 40 k 0 0 in' i) (get_or-replicate 40 k 0 0 in' i)), tt)
+invariant_of-result c = record { fits = λ k in'. (λ i. ordered (get_or-replicate 40 k 0 0 in' i) (get_or-replicate 40 k 0 0 in' i)) }
 
 pub returns : goal.returns
 returns c = λ j in'. cond-false _ _ _ (get_or-replicate 40 j false false in')

@@ -6,10 +6,12 @@ use Rattle.bottom.proofs.Tables.{zeros, shown-zeros}
 use Rattle.bottom.proofs.foot.Foot.new.Goals as goal
 
 pub invariant_of-result : goal.invariant_of-result
-invariant_of-result c = (
-  (λ r. omega (arith, c.capped.ensures r)),
-  ((λ k. omega (arith, zeros 64 k)), ((λ r p h. absurd (both_ways _ (ap (λ (s : Places). s r p) shown-zeros) h)), (lit< tt, tt))),
-)
+invariant_of-result c = record {
+  low = λ r. omega (arith, c.capped.ensures r);
+  stands = λ k. omega (arith, zeros 64 k);
+  inside = λ r p h. absurd (both_ways _ (ap (λ (s : Places). s r p) shown-zeros) h);
+  counted = lit< tt;
+}
 
 pub returns : goal.returns
 returns c = λ i.

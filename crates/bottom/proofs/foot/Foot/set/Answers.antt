@@ -9,4 +9,4 @@ invariant_of-self c =
     let answered = c.in_ok-reach.ensures in
     let low : c.args.place < get_or old.reaches c.args.row 0 = grind (arith, nat_tests) in
     let reach : ℕ → ℕ = λ r. get_or old.reaches r 0 in
-    (old.low, (old.stands, (put-inside _ _ reach c.args.row c.args.place c.args.on c.put.ensures.set low old.inside, (old.counted, tt))))
+    record { low = old.low; stands = old.stands; inside = put-inside _ _ reach c.args.row c.args.place c.args.on c.put.ensures.set low old.inside; counted = old.counted }

@@ -5,4 +5,4 @@ use Rattle.bottom.proofs.foot.Foot.turn.Goals as goal
 pub invariant_of-self : goal.invariant_of-self
 invariant_of-self c =
     let old = c.args.self.now in
-    (old.low, (set_below _ _ _ 16 (omega arith) (omega arith) old.stands, (old.inside, (old.counted, tt))))
+    record { low = old.low; stands = set_below _ _ _ 16 (omega arith) (omega arith) old.stands; inside = old.inside; counted = old.counted }

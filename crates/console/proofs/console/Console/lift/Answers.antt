@@ -11,10 +11,10 @@ use Rattle.console.proofs.console.Console.lift.Goals as goal
 
 pub returns-in_err-check_key : goal.returns-in_err-check_key
 returns-in_err-check_key g c =
-    let e = err_from_is_err_and c.from-residual.result c.from-residual.ensures.1 in
+    let e = err_from_is_err_and c.from_residual.result c.from_residual.ensures.1 in
     record {
-      follows = λ s p t. key_refused g.met.C.Chest.quiet (Lift c.args.division c.args.key) c.args.division c.args.key _ c.in_err-check_key.field-0.0 c.from-residual.result t refl (e.1 ∙ ap Err e.2) c.in_err-check_key.ensures.answer;
-      same = unchanged c.from-residual.result c.args.self.now;
+      follows = λ s p t. key_refused g.met.C.Chest.quiet (Lift c.args.division c.args.key) c.args.division c.args.key _ c.in_err-check_key.field-0.0 c.from_residual.result t refl (e.1 ∙ ap Err e.2) c.in_err-check_key.ensures.answer;
+      same = unchanged c.from_residual.result c.args.self.now;
     }
 
 pub returns-then-not-is_down : goal.returns-then-not-is_down
