@@ -20,9 +20,9 @@ pub loop-text-preserved : goal.loop-text-preserved
 loop-text-preserved c =
     let after = c.next_token.new.self.rest.now in
     let told = c.in_ok-text.ensures.answer in
-    let z = c.in_ok-read_numeral.field-0 in
+    let z = c.in_ok-read_numeral-in-Number.field-0 in
     let fits : SFits w16 z = search rules in
-    go_on _ _ _ _ after _ z _ c.loop-text.invariant (told.2 ∙ ap (λ t. token_before t (pieces after)) c.in-Number.is) (told.1 ∙ ap (λ t. spelled t ++ after) c.in-Number.is) c.in_ok-read_numeral.ensures (to_z-of_z w16 z fits) (c.push.ensures.after _ c.loop-text.invariant.kept)
+    go_on _ _ _ _ after _ z _ c.loop-text.invariant (told.2 ∙ ap (λ t. token_before t (pieces after)) c.in-Number.is) (told.1 ∙ ap (λ t. spelled t ++ after) c.in-Number.is) c.in_ok-read_numeral-in-Number.ensures (to_z-of_z w16 z fits) (c.push.ensures.after _ c.loop-text.invariant.kept)
 
 pub returns-then-is_empty : goal.returns-then-is_empty
 returns-then-is_empty c =
