@@ -3,8 +3,8 @@ use Rattle.std.proofs.Common.{◌≡◌, ℕ, ◌+◌, ◌<◌, ◌≤◌, Bool,
 use Rattle.std.proofs.lemmas.List.{length-take, get_or-take, get_or_default}
 use Rattle.std.proofs.lemmas.Bool.{false≢true}
 use Rattle.std.proofs.lemmas.Bool.Decides.{nat_tests}
-use Rattle.chest.specs.Places.{Places, total, put}
-use Rattle.chest.specs.Meaning.{Panel, knob_to}
+use Rattle.chest.specs.Places.{total, put}
+use Rattle.chest.specs.Meaning.{knob_to}
 use Rattle.chest.proofs.Totals.{total-zero, total-more}
 use Rattle.board.specs.declared.wire.Lead.{Lead}
 use Rattle.board.specs.declared.harness.Harness.{Harness}

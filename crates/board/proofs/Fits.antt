@@ -1,8 +1,7 @@
 -- The checks of a wire, and a board with one wire more. Assumes nothing.
-use Rattle.std.proofs.Common.{◌≡◌, ℕ, ◌<◌, ◌≤◌, Bool, true, false, cond, not, ◌&&◌, ltb, List, [], ◌∷◌, ◌++◌, length, is_ok, IfErr, Ok, Err, Result, sym, refl, ap, ◌∙◌, subst, arith}
+use Rattle.std.proofs.Common.{◌≡◌, ℕ, ◌<◌, Bool, true, false, cond, not, ltb, List, [], ◌∷◌, ◌++◌, length, is_ok, IfErr, Ok, Err, Result, sym, refl, ap, ◌∙◌, arith}
 use Rattle.std.proofs.lemmas.Bool.{both_ways, and_parts, ltb-true, lt-ltb}
 use Rattle.std.proofs.lemmas.Bool.Decides.{nat_tests}
-use Rattle.chest.specs.Places.{Places, none}
 use Rattle.chest.specs.Meaning.{Meaning}
 use Rattle.board.specs.declared.wire.Lead.{Lead}
 use Rattle.board.specs.declared.wire.Wire.{Wire}

@@ -1,17 +1,15 @@
 -- The laws of the image. Assumes nothing.
-use Rattle.std.proofs.Common.{◌≡◌, ℕ, zero, suc, ◌+◌, ◌<◌, ◌≤◌, Bool, true, false, cond, ◌&&◌, ◌||◌, eqb, ltb, leb, ◌≢◌, ◌⊎◌, List, [], ◌∷◌, ◌++◌, length, ℤ, pos, negsuc, ◌+ℤ◌, ◌-ℤ◌, Decides, sum_by, sym, refl, ap, ◌∙◌, inl, inr, ⊎_elim, arith}
+use Rattle.std.proofs.Common.{◌≡◌, ℕ, zero, suc, ◌+◌, ◌<◌, Bool, true, false, ◌&&◌, ◌||◌, eqb, ltb, leb, ◌⊎◌, List, [], ◌∷◌, ◌++◌, length, ℤ, pos, negsuc, ◌+ℤ◌, ◌-ℤ◌, Decides, sym, refl, ap, ◌∙◌, inl, inr, ⊎_elim, arith}
 use Rattle.std.specs.List.{HoldsAt}
 use Rattle.std.proofs.lemmas.Int.{ints}
-use Rattle.std.proofs.lemmas.List.Sums.{sum_by-cons}
 use Rattle.std.proofs.lemmas.Bool.{and_parts, and_from, or_cases, or_left, or_right, leb-true, le-leb, eqb-true, eq-eqb, ltb-true, lt-ltb}
-use Rattle.std.proofs.lemmas.Bool.Decides.{nat_tests, Decides-by_or, Decides-like}
+use Rattle.std.proofs.lemmas.Bool.Decides.{nat_tests, Decides-by_or}
 use Rattle.chest.specs.Places.{Places, none}
 use Rattle.chest.specs.Meaning.{Panel}
-use Rattle.board.specs.declared.wire.Wire.{Wire}
 use Rattle.board.specs.declared.wire.Lead.{Lead}
-use Rattle.board.specs.Wires.{Reaches, live, landing, is_at, leads, way, some, some_wire, image, through, ways_to}
-use Rattle.board.specs.Fitting.{in_range, raised, lead_of}
-use Rattle.board.specs.Laws.{shift_of, Reached, either, ImageLaw}
+use Rattle.board.specs.Wires.{Reaches, live, landing, is_at, leads, way, some, some_wire, image, through}
+use Rattle.board.specs.Fitting.{in_range, raised}
+use Rattle.board.specs.Laws.{Reached, either, ImageLaw}
 use Rattle.board.specs.Sums.{some-found, sum-le}
 use Rattle.board.specs.Ways.{landing_is, through-one}
 use Rattle.board.specs.Images.{image-ways, image-free}

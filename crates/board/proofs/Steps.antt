@@ -7,7 +7,7 @@ use Rattle.board.specs.declared.wire.Lead.{Lead}
 use Rattle.board.specs.declared.wiring.Wiring.{Wiring}
 use Rattle.board.specs.Wires.{landing, way, some, some_wire}
 use Rattle.board.specs.Harness.{outlet, meets, swing, blank}
-use Rattle.board.specs.Layout.{Layout, layout, image_of, ways_of}
+use Rattle.board.specs.Layout.{layout, image_of, ways_of}
 use Rattle.board.specs.Handing.{from_wire, Handed}
 use Rattle.board.specs.Sums.{some_more}
 use Rattle.board.specs.Ways.{outlet-below, way-is, lands-below}

@@ -1,5 +1,5 @@
 -- The steps of the walks that hand down. Assumes nothing.
-use Rattle.std.proofs.Common.{◌≡◌, ℕ, zero, suc, ◌+◌, ◌<◌, ◌≤◌, Bool, true, false, cond, ◌&&◌, ◌||◌, eqb, ltb, List, [], ◌∷◌, ◌++◌, length, get_or, take, is_ok, Ok, Err, Result, sym, refl, ap, ◌∙◌, add-one, arith}
+use Rattle.std.proofs.Common.{◌≡◌, ℕ, ◌+◌, ◌<◌, Bool, true, false, cond, ◌&&◌, ◌||◌, eqb, ltb, List, [], ◌∷◌, ◌++◌, length, get_or, take, is_ok, Ok, Err, Result, sym, refl, ap, ◌∙◌, arith}
 use Rattle.std.specs.Result.{result_unwrap_or}
 use Rattle.std.proofs.lemmas.List.{take_more}
 use Rattle.std.proofs.lemmas.Bool.{lt-ltb, ltb-true}
@@ -9,7 +9,7 @@ use Rattle.chest.specs.declared.fault.ChestFault.TheVariants.{Row, Place, Knob, 
 use Rattle.chest.specs.Places.{Places, put}
 use Rattle.chest.specs.Meaning.{Meaning, with_register, with_panel, knob_to, reach_answer, position_answer, set_answer, set_after, turn_answer, turn_after}
 use Rattle.board.specs.declared.wire.Lead.{Lead}
-use Rattle.board.specs.Wires.{some, some_wire}
+use Rattle.board.specs.Wires.{some_wire}
 use Rattle.board.specs.Layout.{Layout, image_of}
 use Rattle.board.specs.Handing.{mixed, Handed}
 

@@ -1,10 +1,10 @@
 -- A board over a chest: after a key is put, or a knob turned, and handed down, it is settled again. Assumes nothing.
-use Rattle.std.specs.Prelude.{◌≡◌, ℕ, ◌+◌, ◌<◌, ◌≤◌, Bool, true, false, cond, ◌&&◌, ◌||◌, ltb, ◌≢◌, List, [], ◌∷◌, is_some, Some, None, Option, nat_lt, refl}
+use Rattle.std.specs.Prelude.{◌≡◌, ℕ, ◌+◌, ◌<◌, ◌≤◌, Bool, true, false, cond, ◌&&◌, ltb, ◌≢◌, List, [], ◌∷◌, is_some, Some, None, Option, nat_lt, refl}
 use Rattle.std.proofs.Common.{sym, ap, subst, ◌∙◌, arith}
 use Rattle.std.proofs.lemmas.List.Sums.{sum_by-cons}
-use Rattle.std.proofs.lemmas.Bool.{or_parts, and_cases, false≢true}
+use Rattle.std.proofs.lemmas.Bool.{or_parts, false≢true}
 use Rattle.std.proofs.lemmas.Bool.Decides.{nat_tests}
-use Rattle.chest.specs.Places.{Places, none, put, total}
+use Rattle.chest.specs.Places.{Places, none, put}
 use Rattle.chest.specs.Meaning.{Meaning, Panel, Bounded, with_register, with_panel, knob_to}
 use Rattle.board.specs.declared.wire.Lead.{Lead}
 use Rattle.board.specs.Wires.{Reaches, reach_of, way, some, some_wire, image, span, through, ways_to}
@@ -12,7 +12,7 @@ use Rattle.board.specs.Harness.{outlet, meets, swing}
 use Rattle.board.specs.Layout.{Layout, with_key, with_knob, image_of}
 use Rattle.board.specs.Board.{board_meaning, Stands}
 use Rattle.board.specs.Making.{rows_cleared, panel_of, bare, new_meaning}
-use Rattle.board.specs.Handing.{from_key, from_wire, from_knob, mixed}
+use Rattle.board.specs.Handing.{from_key, from_knob, mixed}
 use Rattle.board.specs.Sums.{some-total}
 use Rattle.board.specs.Ways.{Swung, through-put, through-swing}
 use Rattle.board.specs.Images.{image-ways, image-free}

@@ -1,5 +1,5 @@
 -- What handing down puts below: which places it visits, and what then stands there. Assumes nothing.
-use Rattle.std.specs.Prelude.{◌≡◌, ℕ, ◌+◌, Bool, cond, ◌&&◌, is_some}
+use Rattle.std.specs.Prelude.{◌≡◌, ℕ, ◌+◌, cond, ◌&&◌, is_some}
 use Rattle.chest.specs.Places.{Places}
 use Rattle.chest.specs.Meaning.{Meaning, with_register}
 use Rattle.board.specs.declared.wire.Lead.{Lead}

@@ -1,5 +1,5 @@
 -- What a board is made of, and its image. Assumes nothing.
-use Rattle.std.specs.Prelude.{◌≡◌, ℕ, Bool, List, [], ◌∷◌, ◌++◌}
+use Rattle.std.specs.Prelude.{ℕ, Bool, List, [], ◌∷◌, ◌++◌}
 use Rattle.chest.specs.Places.{Places, put}
 use Rattle.chest.specs.Meaning.{Panel, knob_to}
 use Rattle.board.specs.declared.wire.Lead.{Lead}

@@ -1,5 +1,5 @@
 -- Making a board: the chest below is cleared, and the board starts with no wire and no key. Assumes nothing.
-use Rattle.std.specs.Prelude.{◌≡◌, ℕ, Bool, false, cond, ◌&&◌, List, [], ◌==◌, nat_lt, slice_index}
+use Rattle.std.specs.Prelude.{ℕ, false, cond, ◌&&◌, List, [], ◌==◌, nat_lt, slice_index}
 use Rattle.chest.specs.Places.{none}
 use Rattle.chest.specs.Meaning.{Meaning, Panel, with_register}
 use Rattle.board.specs.Wires.{reach_of}

@@ -1,5 +1,5 @@
 -- Values that are never equal, and what an equation between two alike gives. Assumes nothing.
-use Rattle.std.proofs.Common.{◌≡◌, ℕ, Bool, true, false, cond, Some, None, Ok, Err, Option, Result, sym, refl, ap, ◌∙◌, ⊎_elim, arith}
+use Rattle.std.proofs.Common.{◌≡◌, ℕ, Bool, true, cond, Some, None, Ok, Err, Option, Result, ◌∙◌, ⊎_elim, arith}
 use Rattle.std.proofs.lemmas.Bool.{cond-true, cond-false, cases_Bool}
 
 pub some-none : {X : Type 0} (x : X) → Some x ≡ None → ⊥

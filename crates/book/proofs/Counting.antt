@@ -1,5 +1,5 @@
 -- A line's numbers, read one after another. Assumes nothing.
-use Rattle.std.proofs.Common.{◌≡◌, ℕ, ◌+◌, ◌<◌, ◌≤◌, Bool, true, false, cond, eqb, ltb, List, [], ◌∷◌, ◌++◌, length, get_or, set, ℤ, pos, Some, None, Option, sym, refl, ap, ◌∙◌, subst, ⊎_elim, arith}
+use Rattle.std.proofs.Common.{◌≡◌, ℕ, ◌+◌, ◌<◌, ◌≤◌, false, eqb, List, [], ◌∷◌, ◌++◌, length, get_or, set, ℤ, pos, Some, None, Option, sym, refl, ap, ◌∙◌, subst, ⊎_elim, arith}
 use Rattle.std.proofs.lemmas.List.{append-nil, append_assoc, length_push, get_or_push, get_or_append_left, length-append, get_or-set_same, get_or-set_other}
 use Rattle.std.proofs.lemmas.Bool.{cond-false, cases_eq, cases_lt}
 use Rattle.std.proofs.lemmas.Bool.Decides.{nat_tests}
@@ -9,10 +9,10 @@ use Rattle.book.specs.declared.shapes.Parts.{Parts}
 use Rattle.book.proofs.Cutting.{some-pieces}
 use Rattle.book.specs.Bytes.{space, opening, closing}
 use Rattle.book.specs.Numerals.{numeral}
-use Rattle.book.specs.Pieces.{Kind, letters, figures, Piece, run, mark, pieces, numbers_of, with_number, before, Shape, with_head, shape_from, shape_of}
+use Rattle.book.specs.Pieces.{letters, figures, Piece, run, mark, pieces, numbers_of, with_number, before, with_head, shape_from, shape_of}
 use Rattle.book.specs.Shapes.{Kept, Keeps, Shapes}
 use Rattle.book.specs.Limits.{most_numbers}
-use Rattle.book.specs.Tokens.{begins, token_first}
+use Rattle.book.specs.Tokens.{token_first}
 
 -- the numbers so far, before those that the rest has
 pub record Sofar (n : Numbers) (bs rest : List ℕ) : Type 0 where

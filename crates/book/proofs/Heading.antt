@@ -1,5 +1,5 @@
 -- The words of the forms, and a line that is a form's text. Assumes nothing.
-use Rattle.std.proofs.Common.{◌≡◌, ℕ, suc, ◌+◌, ◌<◌, ◌≤◌, Bool, true, false, cond, not, eqb, leb, ◌⊎◌, List, [], ◌∷◌, ◌++◌, length, get_or, ℤ, Some, None, Ok, Err, codes, Option, Result, sym, refl, ap, ◌∙◌, subst, inl, inr, ⊎_elim, one-add, arith}
+use Rattle.std.proofs.Common.{◌≡◌, ℕ, suc, ◌<◌, ◌≤◌, Bool, true, false, cond, ◌⊎◌, List, [], ◌∷◌, length, get_or, ℤ, Some, Ok, Option, sym, refl, ap, ◌∙◌, subst, inl, inr, ⊎_elim, one-add, arith}
 use Rattle.std.specs.List.{flat_map, prefix_len, AllByRecursion as All}
 use Rattle.std.specs.Fmt.{signed_decimal}
 use Rattle.std.specs.Str.{bytes_eq}
@@ -8,22 +8,19 @@ use Rattle.std.proofs.ByRecursion.{All-append, All-weaker}
 use Rattle.std.proofs.lemmas.Slice.Eq.{bytes_eq-Decides}
 use Rattle.std.proofs.lemmas.Bool.{cond-true, cond-false, cases_Bool, eq-eqb, ne_eqb, leb-true, leb-false, le-leb}
 use Rattle.std.proofs.lemmas.Bool.Decides.{nat_tests}
-use Rattle.book.specs.declared.faults.BookFault.{BookFault}
-use Rattle.book.specs.declared.faults.BookFault.TheVariants as fault
 use Rattle.book.specs.declared.forms.Form.{Form}
 use Rattle.book.specs.declared.forms.Form.TheVariants as form
 use Rattle.book.specs.declared.forms.Head.{Head}
 use Rattle.book.specs.declared.forms.Head.TheVariants as head
-use Rattle.book.specs.Bytes.{allowed, letter, numeric, space, opening, closing}
+use Rattle.book.specs.Bytes.{allowed, letter, numeric, closing}
 use Rattle.book.specs.Entries.{InRange}
-use Rattle.book.specs.Forms.{form_from}
 use Rattle.book.specs.Grammar.{head_in, numbers_in, number_text, written, form_text, Word, Short}
 use Rattle.book.specs.Heads.{head_of, spelling, takes}
-use Rattle.book.specs.Pieces.{Shape, shape_of}
+use Rattle.book.specs.Pieces.{Shape}
 use Rattle.book.specs.Reading.{clean, in_range, counted, some_form, shaped, line_form}
-use Rattle.book.proofs.Clash.{some-none, some_same, ok_err, ok_same}
+use Rattle.book.proofs.Clash.{some-none, some_same}
 use Rattle.book.proofs.Forming.{form_sound, form_complete}
-use Rattle.book.proofs.Lining.{Formed, line_formed}
+use Rattle.book.proofs.Lining.{line_formed}
 use Rattle.book.proofs.Spelling.{shape_sound, shape_complete, leading_all}
 use Rattle.book.proofs.Writing.{signed_numeric}
 

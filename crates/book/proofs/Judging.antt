@@ -1,20 +1,19 @@
 -- A whole book against the grammar: what is accepted, with what entries, and what is refused, and why. Assumes nothing.
-use Rattle.std.proofs.Common.{◌≡◌, ℕ, suc, ◌+◌, ◌<◌, ◌≤◌, Bool, true, false, cond, not, eqb, ltb, List, [], ◌∷◌, ◌++◌, length, get_or, ℤ, Some, None, Ok, Err, Option, Result, sym, refl, ap, ◌∙◌, subst, ⊎_elim, arith}
+use Rattle.std.proofs.Common.{◌≡◌, ℕ, ◌+◌, ◌<◌, ◌≤◌, Bool, true, false, cond, eqb, ltb, List, [], ◌∷◌, ◌++◌, length, Some, None, Ok, Err, Option, Result, sym, refl, ap, ◌∙◌, subst, ⊎_elim, arith}
 use Rattle.std.specs.List.{AllByRecursion as All}
 use Rattle.std.proofs.ByRecursion.{All-weaker}
 use Rattle.std.proofs.lemmas.List.{append-nil, append_assoc, nil_from_length}
-use Rattle.std.proofs.lemmas.Bool.{cond-true, cond-false, cases_Bool, eq-eqb, ne_eqb, eqb-true, eqb-false, true≢false, ltb-true, ltb-false, le-ltb}
-use Rattle.std.proofs.lemmas.Bool.Decides.{nat_tests}
+use Rattle.std.proofs.lemmas.Bool.{cond-true, cond-false, cases_Bool, ne_eqb, eqb-true, eqb-false, true≢false, ltb-true, ltb-false, le-ltb}
 use Rattle.book.specs.declared.faults.BookFault.{BookFault}
 use Rattle.book.specs.declared.faults.BookFault.TheVariants as fault
 use Rattle.book.specs.declared.forms.Form.{Form}
 use Rattle.book.specs.declared.forms.Head.{Head}
 use Rattle.book.specs.declared.record.Book.{Book}
 use Rattle.book.specs.Bytes.{allowed, line_end}
-use Rattle.book.specs.Entries.{Entry, Holds, InRange, taken}
+use Rattle.book.specs.Entries.{Entry, Holds, taken}
 use Rattle.book.specs.Faults.{line_of}
 use Rattle.book.specs.Forms.{form_from}
-use Rattle.book.specs.Grammar.{head_in, numbers_in, written, form_text, Word, Short, line_text, text_of, entries_from, entries_of, Fits, FitAfter, Good, Stands, Faulty, Refused, Rejects, Judged, SaidBy, Accepts}
+use Rattle.book.specs.Grammar.{head_in, numbers_in, written, form_text, text_of, entries_from, entries_of, Fits, FitAfter, Stands, Faulty, Refused, Rejects, Judged, SaidBy, Accepts}
 use Rattle.book.specs.Heads.{head_of, spelling, takes}
 use Rattle.book.specs.Limits.{most_bytes}
 use Rattle.book.specs.Pieces.{Shape, shape_of}
@@ -22,7 +21,7 @@ use Rattle.book.specs.Reading.{clean, in_range, counted, form_of, some_form, sha
 use Rattle.book.proofs.Clash.{some-none, some_same, ok_err, ok_same, err_same}
 use Rattle.book.proofs.Course.{cut-some, more_lines}
 use Rattle.book.proofs.Forming.{form_complete}
-use Rattle.book.proofs.Heading.{Clean, FormLine, head_sound, head_complete, spelling-word, written-clean, clean-complete, clean-sound, clean-bad, line_sound, line_complete}
+use Rattle.book.proofs.Heading.{Clean, head_sound, head_complete, spelling-word, written-clean, clean-sound, clean-bad, line_sound, line_complete}
 use Rattle.book.proofs.Spelling.{shape_sound, shape_complete}
 
 -- a byte that does not end a line

@@ -1,9 +1,9 @@
 -- A line of the right shape is the text of its word and its numbers, and that text has this shape. Assumes nothing.
-use Rattle.std.proofs.Common.{◌≡◌, ℕ, suc, ◌+◌, ◌<◌, ◌≤◌, Bool, true, false, cond, eqb, List, [], ◌∷◌, ◌++◌, length, take, drop, ℤ, Some, None, Option, sym, refl, ap, ◌∙◌, subst, ⊎_elim, one-add, arith}
+use Rattle.std.proofs.Common.{◌≡◌, ℕ, ◌+◌, Bool, true, eqb, List, [], ◌∷◌, ◌++◌, length, ℤ, Some, None, Option, sym, refl, ap, ◌∙◌, subst, ⊎_elim, one-add, arith}
 use Rattle.std.specs.List.{flat_map, prefix_len, AllByRecursion as All}
 use Rattle.std.specs.Fmt.{signed_decimal}
 use Rattle.std.proofs.lemmas.List.{append_assoc, take_at, drop_at}
-use Rattle.std.proofs.lemmas.Bool.{cond-true, cond-false, cases_Bool, eqb-true}
+use Rattle.std.proofs.lemmas.Bool.{cond-true, cases_Bool, eqb-true}
 use Rattle.book.specs.Bytes.{letter, numeric, space, opening, closing}
 use Rattle.book.specs.Grammar.{Short, number_text, written, Word}
 use Rattle.book.specs.Numerals.{numeral}

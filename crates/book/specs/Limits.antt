@@ -1,5 +1,5 @@
 -- The sizes that a book is held to, and what a knob may be. Assumes nothing.
-use Rattle.std.specs.Prelude.{ℕ, Bool, true, ◌&&◌, ◌||◌, ◌==◌, nat_le, nat_lt}
+use Rattle.std.specs.Prelude.{ℕ, Bool, ◌&&◌, ◌||◌, ◌==◌, nat_le, nat_lt}
 
 -- bytes of a book
 abbrev pub most_bytes : ℕ

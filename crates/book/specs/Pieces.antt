@@ -1,5 +1,5 @@
 -- A line in pieces, and what the pieces of a form are. Assumes nothing.
-use Rattle.std.specs.Prelude.{ℕ, Bool, true, false, cond, ◌&&◌, ◌||◌, List, [], ◌∷◌, ℤ, Some, None, Option, ◌==◌}
+use Rattle.std.specs.Prelude.{ℕ, Bool, cond, List, [], ◌∷◌, ℤ, Some, None, Option, ◌==◌}
 use Rattle.book.specs.Bytes.{letter, numeric, space, opening, closing}
 use Rattle.book.specs.Numerals.{numeral}
 

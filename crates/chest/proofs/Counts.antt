@@ -1,7 +1,7 @@
 -- The laws of the number of places at which two sets differ. Assumes nothing.
-use Rattle.std.proofs.Common.{◌≡◌, ℕ, ◌+◌, ◌<◌, Bool, true, false, cond, not, ◌&&◌, eqb, ◌≢◌, sym, refl, ap, ◌∙◌, arith}
+use Rattle.std.proofs.Common.{◌≡◌, ℕ, ◌+◌, ◌<◌, Bool, true, false, cond, not, ◌&&◌, refl, ap, ◌∙◌, arith}
 use Rattle.std.proofs.lemmas.Bool.Decides.{nat_tests}
-use Rattle.chest.specs.Places.{Places, none, put, differ, total, size, changed, started, stopped, Counting}
+use Rattle.chest.specs.Places.{Places, put, differ, total, size, changed, started, stopped, Counting}
 use Rattle.chest.proofs.Totals.{total_ext, total-zero, total-sum, total-one}
 
 -- two sets that agree on the chest's places have one size

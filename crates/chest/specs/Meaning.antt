@@ -1,8 +1,8 @@
 -- What a chest means, and what each call makes of that. Assumes nothing.
-use Rattle.std.specs.Prelude.{◌≡◌, ℕ, ◌+◌, ◌%◌, ◌^◌, ◌<◌, ◌≤◌, Bool, true, false, cond, is_ok, Ok, Err, Result, ◌==◌, nat_lt}
+use Rattle.std.specs.Prelude.{◌≡◌, ℕ, ◌+◌, ◌%◌, ◌^◌, ◌<◌, ◌≤◌, Bool, true, cond, is_ok, Ok, Err, Result, ◌==◌, nat_lt}
 use Rattle.chest.specs.declared.fault.ChestFault.{ChestFault}
 use Rattle.chest.specs.declared.fault.ChestFault.TheVariants.{Row, Place, Knob, Position}
-use Rattle.chest.specs.Places.{Places, none, put}
+use Rattle.chest.specs.Places.{Places, put}
 
 -- the position of each knob
 abbrev pub Panel : Type 0

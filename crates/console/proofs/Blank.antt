@@ -1,10 +1,10 @@
 -- Tables as they are made: every element the same. Assumes nothing.
-use Rattle.std.proofs.Common.{◌≡◌, ℕ, zero, suc, ◌+◌, ◌*◌, Bool, true, false, cond, ltb, get_or, replicate, Some, None, refl, ap, ◌∙◌, arith}
+use Rattle.std.proofs.Common.{◌≡◌, ℕ, zero, suc, ◌+◌, ◌*◌, Bool, true, false, cond, ltb, get_or, replicate, None, refl, ap, ◌∙◌, arith}
 use Rattle.std.proofs.lemmas.Bool.Decides.{nat_tests}
 use Rattle.chest.specs.Places.{none}
 use Rattle.console.specs.declared.pistons.Piston.{Piston}
-use Rattle.console.specs.Pistons.{blank, scope_of, frame_of}
-use Rattle.console.specs.Keys.{Keys, no_keys, key_at, switch_at}
+use Rattle.console.specs.Pistons.{blank, scope_of}
+use Rattle.console.specs.Keys.{no_keys, key_at, switch_at}
 
 cond_both : {A : Type 0} (b : Bool) (a : A) → cond b a a ≡ a
 cond_both true a = refl

@@ -1,20 +1,16 @@
 -- A capture: what the piston table stores, and the law at its entry. Assumes nothing.
-use Rattle.std.proofs.Common.{◌≡◌, ℕ, ◌<◌, Bool, true, false, cond, ◌&&◌, eqb, ltb, List, get_or, is_some, is_ok, Some, None, Ok, Err, Option, Result, sym, refl, ap, ◌∙◌, subst, ⊎_elim, arith, eq-eqb, ne_eqb, eqb-true}
-use borrow.Author.Tests.{both_ways}
+use Rattle.std.proofs.Common.{◌≡◌, ℕ, ◌<◌, Bool, true, false, cond, ◌&&◌, List, get_or, is_some, is_ok, Some, None, Ok, Option, sym, refl, ap, ◌∙◌, subst, ⊎_elim, arith, eq-eqb, ne_eqb}
 use Rattle.std.specs.Option.{option_map}
 use Rattle.std.proofs.lemmas.Bool.{cases_eq}
 use Rattle.std.proofs.lemmas.Bool.Decides.{nat_tests}
-use Rattle.chest.specs.Places.{none, changed}
+use Rattle.chest.specs.Places.{none}
 use Rattle.chest.specs.Meaning.{Meaning, Panel, Bounded, next_strobe}
 use Rattle.console.specs.declared.call.Call.TheVariants.{Capture}
 use Rattle.console.specs.declared.console.Console.{Console}
-use Rattle.console.specs.declared.fault.PlayFault.{PlayFault}
-use Rattle.console.specs.declared.fault.PlayFault.TheVariants.{Piston}
 use Rattle.console.specs.declared.pistons.PistonTable.{PistonTable}
-use Rattle.console.specs.declared.pistons.Scope.{Scope}
 use Rattle.console.specs.Knobs.{steps_of}
-use Rattle.console.specs.Pistons.{scope_of, frame_of, within}
-use Rattle.console.specs.Model.{Setup, Model, Memory, piston_check, check, done, after, takes, memory}
+use Rattle.console.specs.Pistons.{scope_of, frame_of}
+use Rattle.console.specs.Model.{Setup, Model, Memory, check, done, after, takes, memory}
 use Rattle.console.specs.Record.{EntryLaw, answer_of}
 use Rattle.console.specs.Tracks.{Sane, Tracks, setup_of, stored_of}
 use Rattle.console.proofs.Steps.{entry, goes}

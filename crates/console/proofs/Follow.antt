@@ -1,8 +1,8 @@
 -- Each kind of done call, from what its walk over the chest leaves to the model's next state. Assumes nothing.
-use Rattle.std.proofs.Common.{◌≡◌, ℕ, ◌<◌, Bool, true, false, cond, ◌&&◌, ◌||◌, eqb, ltb, Ok, Err, Result, sym, refl, ap, ◌∙◌, subst, arith}
+use Rattle.std.proofs.Common.{◌≡◌, ℕ, ◌<◌, Bool, true, false, cond, Ok, Err, Result, sym, ap, ◌∙◌, subst, arith}
 use Rattle.std.proofs.lemmas.Bool.Decides.{nat_tests}
-use Rattle.chest.specs.Places.{Places, none, put, changed}
-use Rattle.chest.specs.Meaning.{Meaning, Panel, Bounded, set_after, turn_after, strobe_after, with_panel as with-panel-of}
+use Rattle.chest.specs.Places.{none, changed}
+use Rattle.chest.specs.Meaning.{Meaning, Panel, Bounded, set_after, strobe_after, with_panel as with-panel-of}
 use Rattle.console.specs.declared.call.Call.{Call}
 use Rattle.console.specs.declared.console.Console.{Console}
 use Rattle.console.specs.declared.fault.PlayFault.{PlayFault}
@@ -11,9 +11,9 @@ use Rattle.console.specs.Keys.{Keys, sounding, pressed, lifted, sustain_begun, s
 use Rattle.console.specs.KeyTable.{keys_of}
 use Rattle.console.specs.Model.{Setup, Model, with_keys, with_panel, key_check, check, done, after}
 use Rattle.console.specs.Record.{Answer, EntryLaw, strobing}
-use Rattle.console.specs.Tracks.{Agrees, Sane, Tracks}
+use Rattle.console.specs.Tracks.{Sane, Tracks}
 use Rattle.console.specs.Walks.{row_shown}
-use Rattle.console.proofs.Steps.{held, next, refused_follows, done-follows}
+use Rattle.console.proofs.Steps.{held, refused_follows, done-follows}
 use Rattle.console.proofs.Keyed.{key_held, row_held, panel-held, key_err}
 
 -- only a sustain that is on holds keys

@@ -1,15 +1,14 @@
 -- What the calls on keys and knobs set in a chest, in the model's words. Assumes nothing.
-use Rattle.std.proofs.Common.{◌≡◌, ℕ, ◌<◌, ◌≤◌, Bool, true, false, cond, ◌&&◌, ◌||◌, eqb, ltb, is_some, Ok, Err, Result, sym, refl, ap, ◌∙◌, subst, arith}
+use Rattle.std.proofs.Common.{◌≡◌, ℕ, ◌<◌, Bool, true, Ok, Err, Result, sym, ap, ◌∙◌, arith}
 use Rattle.std.proofs.lemmas.Bool.Decides.{nat_tests}
-use Rattle.chest.specs.Places.{Places, none, put}
-use Rattle.chest.specs.Meaning.{Meaning, Panel, Bounded, set_after, turn_after, with_register, with_panel, knob_to}
-use Rattle.chest.proofs.Calls.{set-done, turn_done}
+use Rattle.chest.specs.Places.{Places, put}
+use Rattle.chest.specs.Meaning.{Meaning, Panel, Bounded, set_after, with_panel}
+use Rattle.chest.proofs.Calls.{set-done}
 use Rattle.console.specs.declared.fault.PlayFault.{PlayFault}
-use Rattle.console.specs.declared.fault.PlayFault.TheVariants.{Division, Key}
-use Rattle.console.specs.Keys.{Keys, sounding, pressed, lifted}
-use Rattle.console.specs.Model.{Setup, Model, with_keys, with_panel as model-panel, key_check}
-use Rattle.console.specs.Tracks.{Agrees, Sane}
-use Rattle.console.specs.Walks.{row_shown, knobs_turned}
+use Rattle.console.specs.Keys.{Keys, sounding}
+use Rattle.console.specs.Model.{Model, with_keys, with_panel as model-panel, key_check}
+use Rattle.console.specs.Tracks.{Agrees}
+use Rattle.console.specs.Walks.{row_shown}
 use Rattle.console.proofs.Steps.{held}
 
 -- the checks of a key

@@ -1,20 +1,19 @@
 -- A making, over meanings: what stands once the rows are out, the knobs at home and the chest strobed. Assumes nothing.
-use Rattle.std.proofs.Common.{◌≡◌, ℕ, ◌<◌, Bool, true, false, cond, ◌&&◌, get_or, is_some, Some, None, Option, sym, refl, ap, ◌∙◌, subst, arith}
+use Rattle.std.proofs.Common.{◌≡◌, ℕ, Bool, true, false, get_or, is_some, Some, None, Option, sym, refl, ap, ◌∙◌, subst, arith}
 use Rattle.std.specs.Option.{option_map}
 use Rattle.std.proofs.lemmas.Bool.Decides.{nat_tests}
 use Rattle.chest.specs.Places.{none}
 use Rattle.chest.specs.Meaning.{Meaning, Panel, Bounded, strobe_after}
-use Rattle.console.specs.declared.console.Console.{Console}
 use Rattle.console.specs.declared.keys.KeyTable.{KeyTable}
 use Rattle.console.specs.declared.knobs.KnobTable.{KnobTable}
 use Rattle.console.specs.declared.pistons.PistonTable.{PistonTable}
-use Rattle.console.specs.Keys.{no_keys, sounding}
+use Rattle.console.specs.Keys.{no_keys}
 use Rattle.console.specs.KeyTable.{keys_of}
 use Rattle.console.specs.Knobs.{steps_of, home_of}
 use Rattle.console.specs.Pistons.{scope_of, frame_of}
 use Rattle.console.specs.Model.{Setup, Memory, first, all_home, memory}
 use Rattle.console.specs.Record.{Making}
-use Rattle.console.specs.Tracks.{Agrees, Sane, Tracks, Makes, setup_of, stored_of}
+use Rattle.console.specs.Tracks.{Agrees, Sane, Makes, setup_of, stored_of}
 use Rattle.console.specs.Walks.{rows_out, knobs_turned}
 
 -- every place of a chest is out

@@ -1,10 +1,8 @@
 -- What turn, cancel, recall and capture come to in the model. Assumes nothing.
-use Rattle.std.proofs.Common.{◌≡◌, ℕ, ◌<◌, ◌≤◌, Bool, true, false, cond, ◌&&◌, eqb, ltb, List, get_or, is_some, Some, None, Ok, Err, Option, Result, unwrap_or, sym, refl, ap, ◌∙◌, subst, arith}
-use Rattle.std.specs.Option.{option_map}
+use Rattle.std.proofs.Common.{◌≡◌, ℕ, ◌<◌, ◌≤◌, Bool, true, false, cond, ◌&&◌, List, get_or, is_some, Some, None, Ok, Err, Option, unwrap_or, sym, refl, ap, ◌∙◌, arith}
 use Rattle.std.proofs.lemmas.Bool.Decides.{nat_tests}
 use Rattle.chest.specs.Meaning.{Meaning, Panel, with_panel}
-use Rattle.console.specs.declared.fault.PlayFault.{PlayFault}
-use Rattle.console.specs.declared.fault.PlayFault.TheVariants.{Knob, Position}
+use Rattle.console.specs.declared.fault.PlayFault.TheVariants.{Position}
 use Rattle.console.specs.declared.pistons.Scope.{Scope}
 use Rattle.console.specs.Knobs.{steps_of, home_of}
 use Rattle.console.specs.Model.{Setup, Memory, knob_check, homed, takes, memory, recalled}

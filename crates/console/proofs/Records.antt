@@ -1,11 +1,11 @@
 -- The record law: at any one entry, at a record with one more entry, and at a chain of a host's calls. Assumes nothing.
-use Rattle.std.proofs.Common.{◌≡◌, ℕ, Bool, true, false, cond, ◌&&◌, List, [], ◌∷◌, ◌++◌, map, is_ok, Ok, Err, Result, sym, refl, ap, ◌∙◌, subst, arith}
+use Rattle.std.proofs.Common.{◌≡◌, ℕ, Bool, true, cond, ◌&&◌, List, [], ◌∷◌, ◌++◌, map, is_ok, Ok, Err, Result, sym, refl, ap, ◌∙◌, subst, arith}
 use Rattle.std.proofs.lemmas.List.{map-append}
 use Rattle.chest.specs.Meaning.{Meaning, next_strobe}
 use Rattle.console.specs.declared.call.Call.{Call}
 use Rattle.console.specs.declared.console.Console.{Console}
 use Rattle.console.specs.declared.fault.PlayFault.{PlayFault}
-use Rattle.console.specs.Model.{Setup, Model, first, check, after}
+use Rattle.console.specs.Model.{Setup, Model, check, after}
 use Rattle.console.specs.Record.{Answer, Entry, EntryLaw, RecordLaw, EveryEntry, last_meaning, last_model, strobing, answer_of}
 use Rattle.console.specs.Tracks.{Tracks, Follows}
 use Rattle.console.specs.Plays.{Recorded, Step, Chain, HostsLaw, Touches, entry_of}

@@ -1,18 +1,17 @@
 -- One call, over meanings and models: what a refused call and a done call show of the entry's law. Assumes nothing.
-use Rattle.std.proofs.Common.{◌≡◌, ℕ, ◌<◌, Bool, true, false, cond, ◌&&◌, is_ok, IfErr, Ok, Err, Result, sym, refl, ap, ◌∙◌, subst, arith}
+use Rattle.std.proofs.Common.{◌≡◌, ℕ, true, false, cond, ◌&&◌, is_ok, IfErr, Ok, Err, Result, sym, refl, ap, ◌∙◌, subst, arith}
 use Rattle.std.proofs.lemmas.Bool.Decides.{nat_tests}
 use Rattle.chest.specs.Places.{Places, none, differ, changed}
 use Rattle.chest.specs.Meaning.{Meaning, Panel, next_strobe, strobe_after}
-use Rattle.chest.proofs.Counts.{changed-same}
 use Rattle.console.specs.declared.call.Call.{Call}
 use Rattle.console.specs.declared.console.Console.{Console}
 use Rattle.console.specs.declared.fault.PlayFault.{PlayFault}
 use Rattle.console.specs.declared.keys.KeyTable.{KeyTable}
-use Rattle.console.specs.Keys.{Keys, sounding}
+use Rattle.console.specs.Keys.{sounding}
 use Rattle.console.specs.KeyTable.{keys_of}
 use Rattle.console.specs.Model.{Setup, Model, check, done, after}
-use Rattle.console.specs.Record.{Answer, Entry, EntryLaw, AtRest, pipes_of, strobing, answer_of}
-use Rattle.console.specs.Tracks.{Agrees, Sane, Tracks, setup_of, stored_of}
+use Rattle.console.specs.Record.{Answer, EntryLaw, AtRest, pipes_of, strobing, answer_of}
+use Rattle.console.specs.Tracks.{Agrees, Sane, Tracks, setup_of}
 
 -- a call that changes nothing says so, whatever it answers
 pub unchanged : {A B X : Type 0} (r : Result A B) (x : X) → IfErr r (λ e. x ≡ x)

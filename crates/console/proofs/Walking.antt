@@ -1,8 +1,8 @@
 -- One step of each walk over a chest. Assumes nothing.
-use Rattle.std.proofs.Common.{◌≡◌, ℕ, ◌+◌, ◌<◌, ◌≤◌, Bool, true, false, cond, ◌&&◌, eqb, ltb, sym, ap, ◌∙◌, subst, arith}
+use Rattle.std.proofs.Common.{◌≡◌, ℕ, ◌+◌, ◌<◌, Bool, true, false, sym, ap, ◌∙◌, arith}
 use Rattle.std.proofs.lemmas.Bool.Decides.{nat_tests}
 use Rattle.chest.specs.Places.{Places, none, put}
-use Rattle.chest.specs.Meaning.{Meaning, Bounded, set_after, turn_after, with_register, with_panel, knob_to}
+use Rattle.chest.specs.Meaning.{Meaning, set_after, turn_after, with_register, with_panel, knob_to}
 use Rattle.chest.proofs.Calls.{set-done, turn_done}
 use Rattle.console.specs.Walks.{row_shown, rows_out, knobs_turned}
 

@@ -1,5 +1,5 @@
 -- A knob by its number of steps and its home, and tables of these. Assumes nothing.
-use Rattle.std.specs.Prelude.{ℕ, Bool, cond, ◌&&◌, ◌||◌, List, Some, None, Option, ◌==◌, nat_le, nat_lt, slice_index}
+use Rattle.std.specs.Prelude.{ℕ, Bool, cond, ◌&&◌, List, Some, None, Option, ◌==◌, nat_le, nat_lt, slice_index}
 
 -- 2 to 16 steps and a home below them
 abbrev pub sound : ℕ → ℕ → Bool

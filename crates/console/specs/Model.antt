@@ -1,8 +1,7 @@
 -- The model console: what the calls come to. It is given the reaches, the knobs and the pistons once, and then only the
 -- calls with their arguments, never an answer. Assumes nothing.
-use Rattle.std.specs.Prelude.{ℕ, Bool, true, false, cond, ◌&&◌, is_some, is_ok, Some, None, Ok, Err, Option, Result, ◌==◌, nat_lt}
+use Rattle.std.specs.Prelude.{ℕ, Bool, cond, ◌&&◌, is_some, is_ok, Some, None, Ok, Err, Option, Result, ◌==◌, nat_lt}
 use Rattle.std.specs.Option.{unwrap_or}
-use Rattle.chest.specs.Places.{Places}
 use Rattle.chest.specs.Meaning.{Panel, knob_to}
 use Rattle.console.specs.declared.call.Call.{Call}
 use Rattle.console.specs.declared.call.Call.TheVariants.{Press, Lift, Sustain, Clear, Turn, Capture, Recall, Cancel}

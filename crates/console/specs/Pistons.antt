@@ -1,5 +1,5 @@
 -- Tables of pistons: their scopes, and what was captured on them. Assumes nothing.
-use Rattle.std.specs.Prelude.{ℕ, Bool, true, false, cond, ◌&&◌, List, [], Some, None, Option, nat_le, nat_lt, slice_index_or}
+use Rattle.std.specs.Prelude.{ℕ, Bool, false, cond, ◌&&◌, List, [], Some, None, Option, nat_le, nat_lt, slice_index_or}
 use Rattle.console.specs.declared.pistons.Piston.{Piston}
 use Rattle.console.specs.declared.pistons.Scope.{Scope}
 

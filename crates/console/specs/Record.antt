@@ -1,8 +1,8 @@
 -- The law over whole records: what holds at every entry from a making on, in the words of the chest and of the model
 -- console. Assumes nothing.
-use Rattle.std.specs.Prelude.{◌≡◌, ℕ, ◌<◌, Bool, true, false, cond, ◌&&◌, List, [], ◌∷◌, ◌++◌, map, length, is_ok, Some, None, Ok, Err, Option, Result}
+use Rattle.std.specs.Prelude.{◌≡◌, ℕ, Bool, true, false, cond, ◌&&◌, List, [], ◌∷◌, ◌++◌, is_ok, Ok, Err, Result}
 use Rattle.chest.specs.Places.{Places, none, differ, changed}
-use Rattle.chest.specs.Meaning.{Meaning, Panel, next_strobe}
+use Rattle.chest.specs.Meaning.{Meaning, next_strobe}
 use Rattle.console.specs.declared.call.Call.{Call}
 use Rattle.console.specs.declared.call.Call.TheVariants.{Press, Lift, Sustain, Clear, Turn, Capture, Recall, Cancel}
 use Rattle.console.specs.declared.fault.PlayFault.{PlayFault}

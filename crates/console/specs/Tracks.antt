@@ -1,17 +1,17 @@
 -- A console that stands as the model does, and what each of its calls promises by that. Assumes nothing.
-use Rattle.std.specs.Prelude.{◌≡◌, ℕ, ◌<◌, Bool, true, false, cond, List, [], ◌∷◌, map, Some, None, Option, slice_index}
+use Rattle.std.specs.Prelude.{◌≡◌, ℕ, ◌<◌, true, Some, Option, slice_index}
 use Rattle.std.specs.Option.{option_map}
 use Rattle.chest.specs.Meaning.{Meaning}
 use Rattle.console.specs.declared.call.Call.{Call}
 use Rattle.console.specs.declared.console.Console.{Console}
 use Rattle.console.specs.declared.knobs.KnobTable.{KnobTable}
 use Rattle.console.specs.declared.pistons.PistonTable.{PistonTable}
-use Rattle.console.specs.Keys.{Keys, sounding}
+use Rattle.console.specs.Keys.{sounding}
 use Rattle.console.specs.KeyTable.{keys_of}
 use Rattle.console.specs.Knobs.{steps_of, home_of}
 use Rattle.console.specs.Pistons.{scope_of, frame_of}
 use Rattle.console.specs.Model.{Setup, Model, Memory, first, memory, after}
-use Rattle.console.specs.Record.{Answer, Entry, EntryLaw, RecordLaw, Making, pipes_of, last_meaning, last_model}
+use Rattle.console.specs.Record.{Answer, EntryLaw, Making, pipes_of}
 
 -- what a console is made from: the reaches of its chest, its knobs and its pistons
 abbrev pub setup_of : (ℕ → ℕ) → KnobTable → PistonTable → Setup

@@ -1,5 +1,5 @@
 -- What the console's walks over a chest leave. Assumes nothing.
-use Rattle.std.specs.Prelude.{ℕ, Bool, false, cond, ◌&&◌, List, is_some, Option, ◌==◌, nat_lt}
+use Rattle.std.specs.Prelude.{ℕ, Bool, false, cond, ◌&&◌, ◌==◌, nat_lt}
 use Rattle.chest.specs.Places.{Places}
 use Rattle.chest.specs.Meaning.{Meaning, with_register, with_panel}
 

@@ -10,14 +10,12 @@ use Rattle.console.specs.declared.console.Console.{Console}
 use Rattle.console.specs.Model.{Setup, Model}
 use Rattle.console.specs.Plays.{Recorded}
 use Rattle.console.specs.Record.{Answer}
-use Rattle.console.specs.Tracks.{Tracks, Follows}
+use Rattle.console.specs.Tracks.{Tracks}
 use Rattle.console.proofs.Records.{recorded_none, recorded_more}
 use Rattle.organ.specs.declared.action.Action.{Action}
 use Rattle.organ.specs.declared.action.Action.TheVariants.{Nothing, Perform, LowNote}
-use Rattle.organ.specs.declared.listing.Line.TheVariants.{Fault}
 use Rattle.organ.specs.Actions.{action_of}
-use Rattle.organ.specs.Listing.{line_bytes}
-use Rattle.organ.specs.Responses.{line_of, Responds}
+use Rattle.organ.specs.Responses.{Responds}
 use Rattle.organ.specs.Lines.{Outcome, silent, low, did, IsOf, AreOf, call_in, answer_in, line_in, Answered}
 
 joined_push : {A B : Type 0} (f : A → List B) (xs : List A) (x : A) → flat_map f (xs ++ x ∷ []) ≡ flat_map f xs ++ f x

@@ -1,5 +1,5 @@
 -- Filling a console's tables from a book, number by number. Assumes nothing.
-use Rattle.std.proofs.Common.{◌≡◌, ℕ, ◌+◌, ◌<◌, ◌≤◌, true, false, cond, ◌&&◌, eqb, ltb, ◌≢◌, List, length, get_or, set, Some, None, Option, unwrap_or, sym, refl, ap, ◌∙◌, ⊎_elim, arith, MatchOption}
+use Rattle.std.proofs.Common.{◌≡◌, ℕ, ◌+◌, ◌<◌, ◌≤◌, true, false, cond, ◌&&◌, eqb, ltb, ◌≢◌, List, length, get_or, set, Some, None, Option, unwrap_or, sym, ap, ◌∙◌, ⊎_elim, arith, MatchOption}
 use borrow.Author.Tests.{both_ways}
 use Rattle.std.specs.Option.{option_map}
 use Rattle.std.proofs.lemmas.List.{get_or-set_same, get_or-set_other, length-set}
@@ -7,7 +7,6 @@ use Rattle.std.proofs.lemmas.Bool.{cases_eq, cases_lt}
 use Rattle.std.proofs.lemmas.Bool.Decides.{nat_tests}
 use Rattle.book.specs.declared.record.Book.{Book}
 use Rattle.book.specs.declared.tables.Knob.{Knob}
-use Rattle.book.specs.declared.tables.Scope.{Scope as Written}
 use Rattle.book.specs.Asking.{knob_in, scope_in}
 use Rattle.console.specs.declared.knobs.KnobTable.{KnobTable}
 use Rattle.console.specs.declared.pistons.PistonTable.{PistonTable}

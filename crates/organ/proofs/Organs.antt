@@ -1,5 +1,5 @@
 -- A console over a stack, as the book has it. Assumes nothing.
-use Rattle.std.proofs.Common.{◌≡◌, ℕ, Ok, Err, Result, sym, refl, ap, ◌∙◌, subst}
+use Rattle.std.proofs.Common.{◌≡◌, ℕ, Ok, Err, Result, subst}
 use Rattle.chest.specs.Meaning.{Meaning}
 use Rattle.book.specs.declared.record.Book.{Book}
 use Rattle.book.specs.Asking.{keys_in}
@@ -10,9 +10,9 @@ use Rattle.console.specs.declared.knobs.KnobTable.{KnobTable}
 use Rattle.console.specs.declared.pistons.PistonTable.{PistonTable}
 use Rattle.console.specs.Knobs.{steps_of, home_of}
 use Rattle.console.specs.Pistons.{scope_of}
-use Rattle.console.specs.Model.{Setup, first}
+use Rattle.console.specs.Model.{first}
 use Rattle.console.specs.Record.{Making}
-use Rattle.console.specs.Tracks.{Tracks, Makes, setup_of}
+use Rattle.console.specs.Tracks.{Makes, setup_of}
 use Rattle.organ.specs.declared.assembly.Refusal.{Refusal}
 use Rattle.organ.specs.Assembly.{Hung, Assembles, stack_meaning}
 use Rattle.organ.specs.Tables.{book_steps, book_home, book_scope}

@@ -1,5 +1,5 @@
 -- The wires of one board, one after the other. Assumes nothing.
-use Rattle.std.proofs.Common.{◌≡◌, ℕ, ◌+◌, ◌<◌, ◌≤◌, Bool, true, false, cond, List, [], ◌∷◌, length, get_or, drop, pos, Ok, Err, Result, sym, refl, ap, ◌∙◌}
+use Rattle.std.proofs.Common.{◌≡◌, ℕ, ◌+◌, ◌<◌, ◌≤◌, Bool, true, false, cond, List, [], ◌∷◌, length, get_or, drop, pos, Ok, Err, sym, refl, ap, ◌∙◌}
 use Rattle.std.proofs.lemmas.List.{drop_more, drop_all}
 use Rattle.chest.specs.Meaning.{Meaning}
 use Rattle.book.specs.declared.forms.Board.{Board}
@@ -9,7 +9,6 @@ use Rattle.board.specs.declared.fault.BoardFault.{BoardFault}
 use Rattle.board.specs.Wires.{Reaches}
 use Rattle.board.specs.Layout.{Layout, with_wire}
 use Rattle.board.specs.Fitting.{fit_answer, lead_of}
-use Rattle.organ.specs.declared.assembly.Refusal.{Refusal}
 use Rattle.organ.specs.Assembly.{offer_of, is_on, unless_refused, fit_run}
 
 -- what a list of wires is read at past its end

@@ -1,7 +1,7 @@
 -- The stack that a book's wires make: coupler board over stop board over a bottom chest. Assumes nothing.
-use Rattle.std.specs.Prelude.{◌≡◌, ℕ, Bool, true, false, cond, List, [], ◌∷◌, ◌++◌, Ok, Err, Result, nat_lt}
-use Rattle.chest.specs.Places.{Places, none}
-use Rattle.chest.specs.Meaning.{Meaning, Panel}
+use Rattle.std.specs.Prelude.{◌≡◌, ℕ, Bool, true, false, cond, List, [], ◌∷◌, Ok, Err, Result, nat_lt}
+use Rattle.chest.specs.Places.{none}
+use Rattle.chest.specs.Meaning.{Meaning}
 use Rattle.book.specs.declared.forms.Board.{Board}
 use Rattle.book.specs.declared.forms.Board.TheVariants.{Coupler, Stop}
 use Rattle.book.specs.declared.forms.Wire.{Wire as Written}

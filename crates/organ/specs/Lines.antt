@@ -8,7 +8,6 @@ use Rattle.console.specs.declared.console.Console.{Console}
 use Rattle.console.specs.Model.{Setup, Model}
 use Rattle.console.specs.Plays.{Recorded}
 use Rattle.console.specs.Record.{Answer}
-use Rattle.console.specs.Tracks.{Tracks}
 use Rattle.organ.specs.declared.action.Action.{Action}
 use Rattle.organ.specs.declared.action.Action.TheVariants.{Nothing, Perform, LowNote}
 use Rattle.organ.specs.declared.listing.Line.TheVariants.{Fault}

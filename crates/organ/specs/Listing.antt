@@ -1,5 +1,5 @@
 -- The bytes of a listing's lines. Assumes nothing.
-use Rattle.std.specs.Prelude.{ℕ, List, [], ◌∷◌, ◌++◌, codes, decimal}
+use Rattle.std.specs.Prelude.{ℕ, List, ◌++◌, codes, decimal}
 use Rattle.organ.specs.declared.listing.Line.{Line}
 use Rattle.organ.specs.declared.listing.Line.TheVariants.{Done, Fault, BookFault}
 

@@ -1,5 +1,5 @@
 -- The answers for `count_key`: each wire is walked once.
-use Rattle.std.proofs.Common.{◌≡◌, ℕ, ◌+◌, true, cond, get_or, Some, None, sym, refl, ap, ◌∙◌, arith}
+use Rattle.std.proofs.Common.{◌≡◌, ℕ, ◌+◌, true, cond, get_or, Some, None, sym, ap, ◌∙◌, arith}
 use Rattle.std.proofs.lemmas.Bool.Decides.{nat_tests}
 use Rattle.board.specs.Harness.{wires, outlet, meets, beneath, panel, blank}
 use Rattle.board.specs.Counts.{at_place, one_at}

@@ -1,5 +1,5 @@
 -- The answers for `count_knob`: each wire of the knob is walked once.
-use Rattle.std.proofs.Common.{◌≡◌, ℕ, ◌+◌, cond, get_or, sym, ap, ◌∙◌, arith}
+use Rattle.std.proofs.Common.{◌+◌, cond, get_or, sym, ap, ◌∙◌, arith}
 use Rattle.board.specs.Wires.{span}
 use Rattle.board.specs.Harness.{wires, beneath, register, blank}
 use Rattle.board.specs.Counts.{at_place}

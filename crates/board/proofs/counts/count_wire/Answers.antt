@@ -1,9 +1,8 @@
 -- The answers for `count_wire`: each key of the wire is counted once.
-use Rattle.std.proofs.Common.{◌≡◌, ℕ, ◌+◌, ◌<◌, ◌≤◌, true, cond, ◌&&◌, eqb, Some, None, sym, refl, ap, ◌∙◌, arith}
+use Rattle.std.proofs.Common.{◌≡◌, ℕ, ◌+◌, true, cond, ◌&&◌, eqb, Some, None, sym, ap, ◌∙◌, arith}
 use Rattle.std.proofs.lemmas.Bool.Decides.{nat_tests}
-use Rattle.board.specs.Wires.{is_at}
 use Rattle.board.specs.Harness.{beneath, register}
-use Rattle.board.specs.Counts.{at_place, one_at, Moves}
+use Rattle.board.specs.Counts.{at_place, one_at}
 use Rattle.board.specs.Ways.{lands-below}
 use Rattle.board.proofs.Counting.{place_within, wire_none, wire_stays, wire_all, wire_more, wire_room}
 use Rattle.board.proofs.counts.count_wire.Goals as goal

@@ -1,7 +1,7 @@
 -- The answers for `hand_wire`: each key of the wire is walked once.
 use Rattle.std.proofs.Common.{◌+◌, sym, ◌∙◌, arith}
 use Rattle.board.specs.Wires.{way}
-use Rattle.board.specs.Layout.{Layout, layout}
+use Rattle.board.specs.Layout.{layout}
 use Rattle.board.specs.Sums.{some-none, some-past}
 use Rattle.board.specs.Ways.{way-low, way-high, lands-below}
 use Rattle.board.proofs.Counting.{place_within}

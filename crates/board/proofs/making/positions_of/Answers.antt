@@ -1,8 +1,7 @@
 -- The answers for `positions_of`: each knob is read once.
-use Rattle.std.proofs.Common.{◌≡◌, ◌<◌, ◌≤◌, refl, ap, ◌∙◌, arith}
+use Rattle.std.proofs.Common.{ap, ◌∙◌, arith}
 use Rattle.std.specs.Result.{result_unwrap_or}
 use Rattle.std.proofs.lemmas.List.{length-set}
-use Rattle.chest.specs.Meaning.{Meaning}
 use Rattle.board.proofs.Tables.{filled_more}
 use Rattle.board.proofs.Walks.{position_value}
 use Rattle.board.proofs.making.positions_of.Goals as goal

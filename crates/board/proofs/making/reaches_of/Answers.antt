@@ -1,8 +1,7 @@
 -- The answers for `reaches_of`: each row is read once.
-use Rattle.std.proofs.Common.{◌≡◌, ◌<◌, ◌≤◌, refl, ap, ◌∙◌, arith}
+use Rattle.std.proofs.Common.{ap, ◌∙◌, arith}
 use Rattle.std.specs.Result.{result_unwrap_or}
 use Rattle.std.proofs.lemmas.List.{length-set}
-use Rattle.chest.specs.Meaning.{Meaning}
 use Rattle.board.proofs.Tables.{filled_more}
 use Rattle.board.proofs.Walks.{reach_value}
 use Rattle.board.proofs.making.reaches_of.Goals as goal

@@ -1,4 +1,4 @@
-use Rattle.std.proofs.Common.{◌≡◌, is_some, Ok, Err, Result, sym, ap, ◌∙◌, false-eqb}
+use Rattle.std.proofs.Common.{◌≡◌, is_some, Ok, Err, Result, ap, ◌∙◌, false-eqb}
 use Rattle.std.proofs.lemmas.Result.{err_from_is_err_and}
 use Rattle.book.specs.declared.faults.BookFault.{BookFault}
 use Rattle.book.specs.declared.forms.Form.{Form}

@@ -1,4 +1,4 @@
-use Rattle.std.proofs.Common.{sym, ◌∙◌, arith, rules}
+use Rattle.std.proofs.Common.{sym, arith}
 use Rattle.book.proofs.Digital.{value_room, size-bad, size-more, size-done, size-zero}
 use Rattle.book.proofs.numerals.size.Goals as goal
 

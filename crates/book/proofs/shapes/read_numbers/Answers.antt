@@ -1,7 +1,6 @@
-use Rattle.std.proofs.Common.{◌≡◌, ◌<◌, ◌∷◌, ◌++◌, length, sym, ap, ◌∙◌, arith, w16, SFits, rules, true-eqb, false-eqb}
+use Rattle.std.proofs.Common.{◌++◌, length, ap, ◌∙◌, arith, w16, SFits, rules, true-eqb, false-eqb}
 use Rattle.std.proofs.lemmas.Int.{to_z-of_z}
 use Rattle.std.proofs.lemmas.List.{length-append}
-use Rattle.book.specs.Bytes.{space}
 use Rattle.book.specs.Pieces.{pieces, numbers_of}
 use Rattle.book.specs.Tokens.{spelled, token_before}
 use Rattle.book.proofs.Counting.{start, stop, finish, go_on, end_at_close, none-after_close}

@@ -1,5 +1,5 @@
 -- The answers for `play`: no call yet, one call more, and all calls.
-use Rattle.std.proofs.Common.{◌≡◌, List, [], ◌∷◌, ◌++◌, get_or, sym, refl, ap, ◌∙◌, append_assoc, append-nil, arith}
+use Rattle.std.proofs.Common.{[], ◌∷◌, ◌++◌, get_or, sym, refl, ap, ◌∙◌, append_assoc, append-nil, arith}
 use Rattle.std.proofs.lemmas.List.{take_more, take_all}
 use Rattle.console.specs.declared.call.Call.TheVariants.{Press}
 use Rattle.console.proofs.Records.{recorded_none, recorded_more}

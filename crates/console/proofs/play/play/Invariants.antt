@@ -1,5 +1,5 @@
 -- So far: a record of the calls before this one and their answers, and room for the answers to come.
-use Rattle.std.proofs.Common.{◌≡◌, ◌+◌, ◌-◌, ◌≤◌, List, ◌++◌, length, take, vec_items, vec_len, vec_capacity}
+use Rattle.std.proofs.Common.{◌≡◌, ◌+◌, ◌≤◌, List, ◌++◌, length, take, vec_items, vec_len, vec_capacity}
 use Rattle.console.specs.Model.{Setup, Model}
 use Rattle.console.specs.Record.{Answer}
 use Rattle.console.specs.Tracks.{Tracks}

@@ -1,4 +1,4 @@
-use Rattle.std.proofs.Common.{◌≡◌, ℕ, ◌+◌, ◌<◌, Bool, is_some, sym, refl, ap, ◌∙◌, subst, arith}
+use Rattle.std.proofs.Common.{◌≡◌, ℕ, ◌+◌, ◌<◌, Bool, is_some, sym, ap, ◌∙◌, subst, arith}
 use Rattle.chest.specs.Meaning.{turn_after}
 use Rattle.console.specs.Knobs.{steps_of, home_of}
 use Rattle.console.specs.Walks.{knobs_turned}

@@ -1,5 +1,5 @@
 -- So far the knobs before `knob` are turned.
-use Rattle.std.proofs.Common.{◌≡◌, true, is_some}
+use Rattle.std.proofs.Common.{◌≡◌, is_some}
 use Rattle.console.specs.Knobs.{steps_of, home_of}
 use Rattle.console.specs.Walks.{knobs_turned}
 use Rattle.console.proofs.walks.home_knobs.Given as goal

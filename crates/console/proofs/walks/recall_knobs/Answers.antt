@@ -1,4 +1,4 @@
-use Rattle.std.proofs.Common.{◌≡◌, ℕ, ◌+◌, Bool, ◌&&◌, get_or, is_some, Some, sym, refl, ap, ◌∙◌, subst}
+use Rattle.std.proofs.Common.{◌≡◌, ℕ, ◌+◌, Bool, ◌&&◌, get_or, is_some, Some, sym, refl, ◌∙◌, subst}
 use Rattle.chest.specs.Meaning.{turn_after}
 use Rattle.console.specs.Knobs.{steps_of}
 use Rattle.console.specs.Pistons.{within}

@@ -1,6 +1,6 @@
 -- So far the knobs before `knob` are turned.
-use Rattle.std.proofs.Common.{◌≡◌, true, is_some}
-use Rattle.console.specs.Knobs.{steps_of, home_of}
+use Rattle.std.proofs.Common.{◌≡◌, true}
+use Rattle.console.specs.Knobs.{home_of}
 use Rattle.console.specs.Walks.{knobs_turned}
 use Rattle.console.proofs.walks.reset_knobs.Given as goal
 

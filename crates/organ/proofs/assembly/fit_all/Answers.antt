@@ -1,5 +1,5 @@
 -- The answers for `fit_all`: a wire is passed over, fitted or refused, and all are fitted.
-use Rattle.std.proofs.Common.{◌≡◌, ◌+◌, drop, sym, refl, ap, ◌∙◌, subst}
+use Rattle.std.proofs.Common.{◌+◌, drop, sym, ap, ◌∙◌, subst}
 use Rattle.board.specs.Board.{Settled}
 use Rattle.board.specs.Layout.{layout, with_wire}
 use Rattle.board.specs.Fitting.{fit_answer, lead_of}

@@ -1,5 +1,5 @@
 -- The answer for `hang`: both boards are made, and each takes its wires.
-use Rattle.std.proofs.Common.{◌≡◌, sym, refl, subst}
+use Rattle.std.proofs.Common.{sym, refl, subst}
 use Rattle.board.specs.Wires.{reach_of}
 use Rattle.organ.specs.Assembly.{Hangs, hang_all}
 use Rattle.organ.proofs.Stacks.{runs, hangs}

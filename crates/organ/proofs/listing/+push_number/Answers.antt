@@ -1,4 +1,4 @@
-use Rattle.std.proofs.Common.{◌≡◌, ◌+◌, ◌<◌, vec_items, vec_len, vec_capacity, ap, ◌∙◌, arith}
+use Rattle.std.proofs.Common.{vec_items, vec_len, vec_capacity, ap, ◌∙◌, arith}
 use Rattle.organ.proofs.Numbers.{length-step, length-digit, more_digits, one_digit}
 use Rattle.organ.proofs.listing.+push_number.Goals as goal
 use Rattle.organ.proofs.listing.+push_number.Goals.{then-n-ge10, else-n-ge10}

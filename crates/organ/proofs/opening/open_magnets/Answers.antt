@@ -1,7 +1,5 @@
 -- The answer for `open_magnets`: the bottom chest is new, with the ranks of the book.
 use Rattle.std.proofs.Common.{◌≡◌, vec_items, ap, ◌∙◌, subst}
-use Rattle.chest.specs.Places.{none}
-use Rattle.chest.specs.Meaning.{Meaning}
 use Rattle.book.specs.Asking.{keys_in, pipes_in}
 use Rattle.bottom.specs.Magnet.{magnet_meaning, MagnetSettled}
 use Rattle.organ.specs.Assembly.{hang_all}

@@ -1,6 +1,6 @@
 -- The answers for `respond_all`: no message yet, one more, and all.
-use Rattle.std.proofs.Common.{◌≡◌, [], ◌∷◌, ◌++◌, length, get_or, take, vec_items, sym, refl, subst, arith}
-use Rattle.std.proofs.lemmas.List.{take_more, take_all}
+use Rattle.std.proofs.Common.{◌≡◌, length, get_or, take, vec_items, sym, refl, subst, arith}
+use Rattle.std.proofs.lemmas.List.{take_more}
 use Rattle.midi.specs.declared.message.Message.TheVariants.{NoteOff}
 use Rattle.organ.specs.Actions.{action_of}
 use Rattle.organ.specs.Responses.{Responds}

@@ -1,5 +1,5 @@
 -- The answers for `knob_table`: no knob yet, one more, and all.
-use Rattle.std.proofs.Common.{◌≡◌, ◌+◌, true, ◌&&◌, ltb, set, sym, refl, ap, ◌∙◌, subst, arith}
+use Rattle.std.proofs.Common.{◌≡◌, ◌+◌, true, ◌&&◌, ltb, set, sym, ◌∙◌, subst, arith}
 use Rattle.std.proofs.lemmas.Bool.Decides.{nat_tests}
 use Rattle.console.specs.Knobs.{sound}
 use Rattle.organ.proofs.Filling.{Filled, fill_none, fill_some, filled_all, defined}

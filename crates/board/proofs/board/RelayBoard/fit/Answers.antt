@@ -1,8 +1,7 @@
 -- The answers for `RelayBoard::fit`: the wire is refused, or stands last.
-use Rattle.std.proofs.Common.{◌≡◌, ◌<◌, true, length, Ok, Err, sym, refl, ap, ◌∙◌, subst, arith}
+use Rattle.std.proofs.Common.{◌≡◌, ◌<◌, true, length, Err, sym, refl, ap, ◌∙◌, subst, arith}
 use Rattle.std.proofs.lemmas.Result.{err_from_is_err_and, IfOk-from_err}
-use Rattle.board.specs.Harness.{register}
-use Rattle.board.specs.Layout.{Layout, layout, with_wire}
+use Rattle.board.specs.Layout.{layout, with_wire}
 use Rattle.board.specs.Board.{board_meaning, Stands}
 use Rattle.board.specs.Fitting.{is_free, wire_checks, lead_of}
 use Rattle.board.proofs.Counting.{wires-len}

@@ -1,7 +1,7 @@
 -- The answers for `RelayBoard::move_knob`: the knob is turned and handed down, and turned below.
 use Rattle.std.proofs.Common.{◌≡◌, sym, ◌∙◌, subst}
 use Rattle.chest.specs.Meaning.{Meaning, knob_to, with_panel}
-use Rattle.board.specs.Layout.{Layout, layout}
+use Rattle.board.specs.Layout.{layout}
 use Rattle.board.specs.Board.{board_meaning, Stands}
 use Rattle.board.proofs.Walks.{turn_done}
 use Rattle.board.specs.Boards.{turn_board}

@@ -1,6 +1,6 @@
 -- The answer for `RelayBoard::put`: the key is put and handed down.
 use Rattle.std.proofs.Common.{sym, ◌∙◌}
-use Rattle.board.specs.Layout.{Layout, layout}
+use Rattle.board.specs.Layout.{layout}
 use Rattle.board.specs.Boards.{set-board}
 use Rattle.board.proofs.board.RelayBoard.put.Goals as goal
 

@@ -1,5 +1,5 @@
 -- The answers for `has_key`: each key is looked at once.
-use Rattle.std.proofs.Common.{◌≡◌, ◌||◌, sym, ap, ◌∙◌}
+use Rattle.std.proofs.Common.{◌||◌, sym, ◌∙◌}
 use Rattle.board.specs.Harness.{register}
 use Rattle.board.specs.Sums.{some-zero, some-found, some_more}
 use Rattle.board.proofs.harness.Harness.has_key.Goals as goal

@@ -1,5 +1,5 @@
 -- The answers for `is_free`: each row is looked at once.
-use Rattle.std.proofs.Common.{◌≡◌, ℕ, Bool, not, ◌||◌, sym, ap, ◌∙◌}
+use Rattle.std.proofs.Common.{not, ◌||◌, sym, ap, ◌∙◌}
 use Rattle.board.specs.Wires.{some}
 use Rattle.board.specs.Harness.{register}
 use Rattle.board.specs.Sums.{some-zero, some-found, some_more}

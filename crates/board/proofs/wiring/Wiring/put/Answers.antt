@@ -1,8 +1,8 @@
 -- The answers for `Wiring::put`: the numbers are those of the register with the key put.
-use Rattle.std.proofs.Common.{◌≡◌, ◌+◌, ◌*◌, sym, ap, ◌∙◌}
+use Rattle.std.proofs.Common.{◌+◌, ◌*◌, sym, ap, ◌∙◌}
 use Rattle.std.proofs.lemmas.List.{length-set}
 use Rattle.board.specs.Wires.{ways_to}
-use Rattle.board.specs.Layout.{Layout, layout}
+use Rattle.board.specs.Layout.{layout}
 use Rattle.board.proofs.Tables.{held-put}
 use Rattle.board.proofs.wiring.Wiring.put.Goals as goal
 

@@ -1,8 +1,8 @@
 -- The answers for `Wiring::turn`: the numbers are those of the panel with the knob turned.
-use Rattle.std.proofs.Common.{◌≡◌, sym, ap, ◌∙◌}
+use Rattle.std.proofs.Common.{sym, ap, ◌∙◌}
 use Rattle.std.proofs.lemmas.List.{length-set}
 use Rattle.board.specs.Wires.{ways_to}
-use Rattle.board.specs.Layout.{Layout, layout}
+use Rattle.board.specs.Layout.{layout}
 use Rattle.board.proofs.Tables.{standing-turned}
 use Rattle.board.proofs.wiring.Wiring.turn.Goals as goal
 

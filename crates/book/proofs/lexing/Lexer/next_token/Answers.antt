@@ -1,4 +1,4 @@
-use Rattle.std.proofs.Common.{◌≡◌, ◌∷◌, get_or, sym, refl, ◌∙◌, true-eqb, false-eqb}
+use Rattle.std.proofs.Common.{get_or, sym, refl, ◌∙◌, true-eqb, false-eqb}
 use Rattle.book.specs.Pieces.{letters}
 use Rattle.book.proofs.Cutting.{split_first, no_token_end, no_token_space, no_token_other, lex_run, lex_number}
 use Rattle.book.proofs.lexing.Lexer.next_token.Goals as goal

@@ -1,4 +1,4 @@
-use Rattle.std.proofs.Common.{◌≡◌, Ok, sym, ap, ◌∙◌}
+use Rattle.std.proofs.Common.{Ok, sym, ap, ◌∙◌}
 use Rattle.book.proofs.Lining.{line_in-range}
 use Rattle.book.proofs.record.Book.add_line.Goals as goal
 

@@ -1,6 +1,5 @@
-use Rattle.std.proofs.Common.{◌≡◌, ◌<◌, not, [], ◌∷◌, ◌++◌, length, is_some, sym, ap, ◌∙◌, subst, arith}
+use Rattle.std.proofs.Common.{◌<◌, not, length, is_some, sym, ap, ◌∙◌, subst, arith}
 use Rattle.std.proofs.lemmas.Bool.{lt-leb}
-use Rattle.book.specs.declared.forms.Form.{Form}
 use Rattle.book.specs.Entries.{Entry, keys_of, pipes_of, knob_of, scope_of, wire_of, wires_of, taken, InRange}
 use Rattle.book.specs.Limits.{rows, knobs, pistons, most_wires}
 use Rattle.book.specs.Tables.{row_at, knob_at, scope_at}

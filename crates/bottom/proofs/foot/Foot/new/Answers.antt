@@ -1,4 +1,4 @@
-use Rattle.std.proofs.Common.{◌<◌, cond, ltb, ap, arith, lit<}
+use Rattle.std.proofs.Common.{cond, ltb, ap, arith, lit<}
 use borrow.Author.Tests.{both_ways}
 use Rattle.chest.specs.Places.{Places}
 use Rattle.bottom.proofs.Kept.{panel_zero}

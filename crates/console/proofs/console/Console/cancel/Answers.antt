@@ -1,5 +1,5 @@
 -- The answer for `Console::cancel`.
-use Rattle.std.proofs.Common.{◌≡◌, refl, ap, ◌∙◌}
+use Rattle.std.proofs.Common.{refl, ap, ◌∙◌}
 use Rattle.console.specs.declared.call.Call.TheVariants.{Cancel}
 use Rattle.console.specs.Model.{homed}
 use Rattle.console.proofs.Follow.{panel-follows}

@@ -1,5 +1,5 @@
 -- The answers for `Console::capture`.
-use Rattle.std.proofs.Common.{◌≡◌, Ok, sym, refl, ap, ◌∙◌}
+use Rattle.std.proofs.Common.{Ok, sym, refl, ap, ◌∙◌}
 use Rattle.console.specs.declared.call.Call.TheVariants.{Capture}
 use Rattle.console.specs.declared.fault.PlayFault.TheVariants.{Piston}
 use Rattle.console.specs.Model.{piston_check}

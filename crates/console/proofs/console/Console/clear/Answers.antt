@@ -1,5 +1,5 @@
 -- The answers for `Console::clear`.
-use Rattle.std.proofs.Common.{◌≡◌, refl, ap, ◌∙◌, arith}
+use Rattle.std.proofs.Common.{refl, ap, ◌∙◌, arith}
 use Rattle.std.proofs.lemmas.Bool.Decides.{nat_tests}
 use Rattle.console.specs.declared.call.Call.TheVariants.{Clear}
 use Rattle.console.specs.declared.fault.PlayFault.TheVariants.{Division}

@@ -1,5 +1,5 @@
 -- The answer for `Console::new`: cleared, turned home, strobed.
-use Rattle.std.proofs.Common.{◌≡◌, true, ap, ◌∙◌}
+use Rattle.std.proofs.Common.{true, ap, ◌∙◌}
 use Rattle.chest.specs.Meaning.{strobe_after}
 use Rattle.console.specs.Knobs.{home_of}
 use Rattle.console.specs.Walks.{knobs_turned}

@@ -1,5 +1,5 @@
 -- The answers for `Console::recall`.
-use Rattle.std.proofs.Common.{◌≡◌, ℕ, cond, get_or, is_some, Ok, Err, Option, sym, refl, ap, ◌∙◌}
+use Rattle.std.proofs.Common.{ℕ, cond, get_or, is_some, Ok, Err, Option, sym, refl, ap, ◌∙◌}
 use Rattle.std.specs.Option.{option_map}
 use Rattle.console.specs.declared.call.Call.TheVariants.{Recall}
 use Rattle.console.specs.declared.fault.PlayFault.TheVariants.{Piston, NeverCaptured}

@@ -1,5 +1,5 @@
 -- The answers for `Console::sustain`.
-use Rattle.std.proofs.Common.{◌≡◌, cond, refl, ap, ◌∙◌, arith}
+use Rattle.std.proofs.Common.{cond, refl, ap, ◌∙◌, arith}
 use Rattle.std.proofs.lemmas.Bool.Decides.{nat_tests}
 use Rattle.console.specs.declared.call.Call.TheVariants.{Sustain}
 use Rattle.console.specs.declared.fault.PlayFault.TheVariants.{Division}

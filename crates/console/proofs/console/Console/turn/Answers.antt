@@ -1,5 +1,5 @@
 -- The answers for `Console::turn`.
-use Rattle.std.proofs.Common.{◌≡◌, sym, refl, ap, ◌∙◌, arith}
+use Rattle.std.proofs.Common.{sym, refl, ap, ◌∙◌, arith}
 use Rattle.chest.specs.Meaning.{Panel, with_panel, knob_to}
 use Rattle.chest.proofs.Calls.{turn_done}
 use Rattle.console.specs.declared.call.Call.TheVariants.{Turn}

@@ -1,4 +1,4 @@
-use Rattle.std.proofs.Common.{refl, ap, ◌∙◌}
+use Rattle.std.proofs.Common.{ap}
 use Rattle.console.specs.Knobs.{blank_or_sound}
 use Rattle.console.proofs.Blank.{getD_blank}
 use Rattle.console.proofs.knobs.KnobTable.new.Goals as goal

@@ -1,4 +1,4 @@
-use Rattle.std.proofs.Common.{◌≡◌, ℕ, List, ◌++◌, vec_items, vec_len, vec_capacity, codes, decimal, sym, refl, ap, ◌∙◌, arith}
+use Rattle.std.proofs.Common.{ℕ, List, ◌++◌, vec_items, vec_len, vec_capacity, codes, decimal, sym, refl, ap, ◌∙◌, arith}
 use Rattle.organ.specs.Listing.{line_bytes, line_end}
 use Rattle.organ.proofs.Numbers.{one_field, two_fields}
 use Rattle.organ.proofs.listing.Line.add_to.Goals as goal
