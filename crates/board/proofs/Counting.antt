@@ -11,8 +11,8 @@ use Rattle.board.specs.declared.harness.Harness.{Harness}
 use Rattle.board.specs.Wires.{landing, is_at, way, span, through}
 use Rattle.board.specs.Harness.{beneath, register, panel, wires, outlet, meets, swing, blank}
 use Rattle.board.specs.Counts.{at_place, Moves, Room}
-use Rattle.board.specs.Sums.{total-part, total-past, walked, walked_more, walked-le}
-use Rattle.board.specs.Ways.{Swung, outlet-below, through-one, through-put, through-swing, way-is, way-low, way-high}
+use Rattle.board.proofs.Sums.{total-part, total-past, walked, walked_more, walked-le}
+use Rattle.board.proofs.Ways.{Swung, outlet-below, through-one, through-put, through-swing, way-is, way-low, way-high}
 
 by_hit : (x y was on : Bool) (new old n m : ℕ) → was ≡ not on → x ≡ y → new + cond (x && was) 1 0 ≡ old + cond (x && on) 1 0 → m + old ≡ n + new → m + cond on 0 (cond y 1 0) ≡ n + cond on (cond y 1 0) 0
 by_hit x y was on new old n m other same one more = grind (arith, nat_tests)

@@ -13,8 +13,8 @@ use Rattle.board.specs.Harness.{own, register}
 use Rattle.board.specs.Layout.{Layout, with_wire}
 use Rattle.board.specs.Board.{board_meaning, Stands}
 use Rattle.board.specs.Fitting.{checked, is_free, wire_checks, fit_answer, fit_after, lead_of}
-use Rattle.board.specs.Sums.{some-found}
-use Rattle.board.specs.Images.{image-free}
+use Rattle.board.proofs.Sums.{some-found}
+use Rattle.board.proofs.Images.{image-free}
 
 -- the checks fail, or pass, whatever is handed on
 pub checks_fail : {X Y : Type 0} (cs : List (Bool × BoardFault)) (x : X) (y : Y) (e : BoardFault) → checked cs x ≡ Err e → checked cs y ≡ Err e

@@ -1,6 +1,10 @@
+pub mod Sums
+pub mod Ways
 pub mod Counting
+pub mod Images
 pub mod Tables
 pub mod Walks
+pub mod Boards
 pub mod Fits
 pub mod Shown
 pub mod Steps

@@ -10,9 +10,9 @@ use Rattle.board.specs.declared.wire.Lead.{Lead}
 use Rattle.board.specs.Wires.{Reaches, live, landing, is_at, leads, way, some, some_wire, image, through}
 use Rattle.board.specs.Fitting.{in_range, raised}
 use Rattle.board.specs.Laws.{Reached, either, ImageLaw}
-use Rattle.board.specs.Sums.{some-found, sum-le}
-use Rattle.board.specs.Ways.{landing_is, through-one}
-use Rattle.board.specs.Images.{image-ways, image-free}
+use Rattle.board.proofs.Sums.{some-found, sum-le}
+use Rattle.board.proofs.Ways.{landing_is, through-one}
+use Rattle.board.proofs.Images.{image-ways, image-free}
 
 -- a number that passes
 some-tells : (n : ℕ) (f : ℕ → Bool) → some n f ≡ true → (k : ℕ) × (k < n) × (f k ≡ true)

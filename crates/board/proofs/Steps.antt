@@ -9,10 +9,10 @@ use Rattle.board.specs.Wires.{landing, way, some, some_wire}
 use Rattle.board.specs.Harness.{outlet, meets, swing, blank}
 use Rattle.board.specs.Layout.{layout, image_of, ways_of}
 use Rattle.board.specs.Handing.{from_wire, Handed}
-use Rattle.board.specs.Sums.{some_more}
-use Rattle.board.specs.Ways.{outlet-below, way-is, lands-below}
+use Rattle.board.proofs.Sums.{some_more}
+use Rattle.board.proofs.Ways.{outlet-below, way-is, lands-below}
 use Rattle.board.proofs.Counting.{wires-len, wires-read, outlet-within, place_within}
-use Rattle.board.specs.Images.{image-ways}
+use Rattle.board.proofs.Images.{image-ways}
 use Rattle.board.proofs.Walks.{or_false, handed-put, handed-then, handed-as, handed-more, handed-skip}
 
 nowhere : (x : Bool) → (x && false) ≡ false

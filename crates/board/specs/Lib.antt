@@ -9,7 +9,4 @@ pub mod Handing
 pub mod Fitting
 pub mod Making
 pub mod Laws
-pub mod Boards
-pub mod Sums
-pub mod Ways
-pub mod Images
+pub mod Quiet

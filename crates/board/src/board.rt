@@ -5,7 +5,7 @@ ghost use Rattle.chest.specs.Meaning.{with_register, with_panel, knob_to};
 ghost use Rattle.board.specs.Layout.{layout};
 ghost use Rattle.board.specs.Board.{meaning_of, Settled, Becomes};
 ghost use Rattle.board.specs.Sending.{HandsOn};
-ghost use Rattle.board.specs.Boards.{board_quiet, board_bounded};
+ghost use Rattle.board.specs.Quiet.{board_quiet, board_bounded};
 ghost use Rattle.std.proofs.Common.{arith};
 ghost use Rattle.std.proofs.lemmas.Bool.{and_parts, ltb-true};
 ghost use Rattle.std.proofs.lemmas.Bool.Decides.{nat_tests};

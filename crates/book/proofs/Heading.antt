@@ -1,6 +1,6 @@
 -- The words of the forms, and a line that is a form's text. Assumes nothing.
 use Rattle.std.proofs.Common.{◌≡◌, ℕ, suc, ◌<◌, ◌≤◌, Bool, true, false, cond, ◌⊎◌, List, [], ◌∷◌, length, get_or, ℤ, Some, Ok, Option, sym, refl, ap, ◌∙◌, subst, inl, inr, ⊎_elim, one-add, arith}
-use Rattle.std.specs.List.{flat_map, prefix_len, AllByRecursion as All}
+use Rattle.std.specs.List.{flat_map, prefix_len, AllByRecursion}
 use Rattle.std.specs.Fmt.{signed_decimal}
 use Rattle.std.specs.Str.{bytes_eq}
 use Rattle.std.proofs.lemmas.List.{append-nil}
@@ -67,7 +67,7 @@ numbers_count (form.Piston piston lowest highest) = refl
 numbers_count (form.Wire w) = refl
 
 abbrev pub Clean : List ℕ → Type 0
-Clean l = All (λ b. allowed b ≡ true) l
+Clean l = AllByRecursion (λ b. allowed b ≡ true) l
 
 letter-allowed : (b : ℕ) → letter b ≡ true → allowed b ≡ true
 letter-allowed b h = grind (arith, nat_tests)
@@ -75,12 +75,12 @@ letter-allowed b h = grind (arith, nat_tests)
 numeric-allowed : (b : ℕ) → numeric b ≡ true → allowed b ≡ true
 numeric-allowed b h = grind (arith, nat_tests)
 
-numbers_clean : (zs : List ℤ) → All Short zs → Clean (flat_map number_text zs)
+numbers_clean : (zs : List ℤ) → AllByRecursion Short zs → Clean (flat_map number_text zs)
 numbers_clean [] short = tt
 numbers_clean (z ∷ zs) short =
     (refl, All-append _ (signed_decimal z) (flat_map number_text zs) (All-weaker _ _ numeric-allowed (signed_decimal z) (signed_numeric z short.0).0) (numbers_clean zs short.1))
 
-pub written-clean : (w : List ℕ) (zs : List ℤ) → Word w → All Short zs → Clean (written w zs)
+pub written-clean : (w : List ℕ) (zs : List ℤ) → Word w → AllByRecursion Short zs → Clean (written w zs)
 written-clean w zs word short =
     (refl, All-append _ w _ (All-weaker _ _ letter-allowed w word.1) (All-append _ (flat_map number_text zs) (closing ∷ []) (numbers_clean zs short) (refl, tt)))
 
@@ -90,7 +90,7 @@ leading_yes p x xs d = cond-true _ _ _ d ∙ one-add (prefix_len p xs)
 leading_no : (p : ℕ → Bool) (x : ℕ) (xs : List ℕ) → p x ≡ false → prefix_len p (x ∷ xs) ≡ 0
 leading_no p x xs d = cond-false _ _ _ d
 
-leading_sound : (p : ℕ → Bool) (xs : List ℕ) → length xs ≤ prefix_len p xs → All (λ b. p b ≡ true) xs
+leading_sound : (p : ℕ → Bool) (xs : List ℕ) → length xs ≤ prefix_len p xs → AllByRecursion (λ b. p b ≡ true) xs
 leading_sound p [] h = tt
 leading_sound p (x ∷ xs) h =
     ⊎_elim
@@ -121,7 +121,7 @@ clean-bad l h = let short = leb-false (length l) (prefix_len allowed l) h in (pr
 pub record FormLine (l : List ℕ) (f : Form) : Type 0 where
   pub text : l ≡ form_text f
   pub ranges : InRange f
-  pub short : All Short (numbers_in f)
+  pub short : AllByRecursion Short (numbers_in f)
 
 pub line_sound : (n : ℕ) (l : List ℕ) (f : Form) → Ok (Some f) ≡ line_form n l → FormLine l f
 line_sound n l f e =
@@ -132,10 +132,10 @@ line_sound n l f e =
     record {
       text = s.text ∙ (λ i. written (word i) (sym r.numbers i));
       ranges = r.ranges;
-      short = subst (All Short) (sym r.numbers) s.short;
+      short = subst (AllByRecursion Short) (sym r.numbers) s.short;
     }
 
-pub line_complete : (n : ℕ) (f : Form) → InRange f → All Short (numbers_in f) → line_form n (form_text f) ≡ Ok (Some f)
+pub line_complete : (n : ℕ) (f : Form) → InRange f → AllByRecursion Short (numbers_in f) → line_form n (form_text f) ≡ Ok (Some f)
 line_complete n f ranges short =
     let w = spelling (head_in f) in
     let zs = numbers_in f in

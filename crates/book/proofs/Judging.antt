@@ -1,6 +1,6 @@
 -- A whole book against the grammar: what is accepted, with what entries, and what is refused, and why. Assumes nothing.
 use Rattle.std.proofs.Common.{◌≡◌, ℕ, ◌+◌, ◌<◌, ◌≤◌, Bool, true, false, cond, eqb, ltb, List, [], ◌∷◌, ◌++◌, length, Some, None, Ok, Err, Option, Result, sym, refl, ap, ◌∙◌, subst, ⊎_elim, arith}
-use Rattle.std.specs.List.{AllByRecursion as All}
+use Rattle.std.specs.List.{AllByRecursion}
 use Rattle.std.proofs.ByRecursion.{All-weaker}
 use Rattle.std.proofs.lemmas.List.{append-nil, append_assoc, nil_from_length}
 use Rattle.std.proofs.lemmas.Bool.{cond-true, cond-false, cases_Bool, ne_eqb, eqb-true, eqb-false, true≢false, ltb-true, ltb-false, le-ltb}
@@ -31,7 +31,7 @@ Inner b = b ≡ line_end → ⊥
 allowed-inner : (b : ℕ) → allowed b ≡ true → Inner b
 allowed-inner b h e = true≢false (sym h ∙ ap allowed e)
 
-cut_line : (l rest : List ℕ) → All Inner l → cut (l ++ line_end ∷ rest) ≡ l ∷ cut rest
+cut_line : (l rest : List ℕ) → AllByRecursion Inner l → cut (l ++ line_end ∷ rest) ≡ l ∷ cut rest
 cut_line [] rest all = refl
 cut_line (b ∷ l) rest all = cond-false _ _ _ (ne_eqb b line_end all.0) ∙ ap (onto_first b) (cut_line l rest all.1)
 
@@ -78,16 +78,16 @@ glue-cut (b ∷ bs) =
     (λ d. ap glue (cond-false _ _ _ d) ∙ glue-onto b (cut bs) (cut-some bs) ∙ ap (λ l. b ∷ l) (glue-cut bs))
     (cases_Bool (eqb b line_end))
 
-onto_inner : (b : ℕ) (ls : List (List ℕ)) → Inner b → All (All Inner) ls → All (All Inner) (onto_first b ls)
+onto_inner : (b : ℕ) (ls : List (List ℕ)) → Inner b → AllByRecursion (AllByRecursion Inner) ls → AllByRecursion (AllByRecursion Inner) (onto_first b ls)
 onto_inner b [] h all = ((h, tt), tt)
 onto_inner b (l ∷ ls) h all = ((h, all.0), all.1)
 
-cut-inner : (bs : List ℕ) → All (All Inner) (cut bs)
+cut-inner : (bs : List ℕ) → AllByRecursion (AllByRecursion Inner) (cut bs)
 cut-inner [] = (tt, tt)
 cut-inner (b ∷ bs) =
     ⊎_elim
-    (λ d. subst (All (All Inner)) (sym (cond-true _ _ _ d)) (tt, cut-inner bs))
-    (λ d. subst (All (All Inner)) (sym (cond-false _ _ _ d)) (onto_inner b (cut bs) (eqb-false b line_end d) (cut-inner bs)))
+    (λ d. subst (AllByRecursion (AllByRecursion Inner)) (sym (cond-true _ _ _ d)) (tt, cut-inner bs))
+    (λ d. subst (AllByRecursion (AllByRecursion Inner)) (sym (cond-false _ _ _ d)) (onto_inner b (cut bs) (eqb-false b line_end d) (cut-inner bs)))
     (cases_Bool (eqb b line_end))
 
 -- what reading the lines of a text from line n on comes to, in the grammar's words
@@ -215,7 +215,7 @@ empty_line n l e =
     (cases_Bool (clean l))
 
 -- the first line is the faulty one
-refused_here : (es : List Entry) (n : ℕ) (l rest : List ℕ) (e : BookFault) → All Inner l → line_of e ≡ n → Faulty es l true e → Refused es n (l ++ line_end ∷ rest) e
+refused_here : (es : List Entry) (n : ℕ) (l rest : List ℕ) (e : BookFault) → AllByRecursion Inner l → line_of e ≡ n → Faulty es l true e → Refused es n (l ++ line_end ∷ rest) e
 refused_here es n l rest e inner at wrong =
     record {
       before = [];
@@ -228,7 +228,7 @@ refused_here es n l rest e inner at wrong =
       fault = subst (λ x. Faulty x l true e) (sym (append-nil es)) wrong;
     }
 
-last_outcome : (es : List Entry) (n : ℕ) (l : List ℕ) → All Inner l → Outcome es n l (at_end es n l)
+last_outcome : (es : List Entry) (n : ℕ) (l : List ℕ) → AllByRecursion Inner l → Outcome es n l (at_end es n l)
 unfolding Outcome
 last_outcome es n l inner =
     let at : (e : BookFault) → line_of e ≡ n → Faulty es l false e → Refused es n l e =
@@ -254,7 +254,7 @@ last_outcome es n l inner =
     (cases_Bool (clean l))
 
 -- a line with its end, before lines that come to something
-line_outcome : (es : List Entry) (n : ℕ) (l bs : List ℕ) (more : List Entry → Result (List Entry) BookFault) (q : Result (Option Form) BookFault) → All Inner l → ((fs : List Entry) → Outcome fs (n + 1) bs (more fs)) → q ≡ line_form n l → Outcome es n (l ++ line_end ∷ bs) (and_then (placed es n q) more)
+line_outcome : (es : List Entry) (n : ℕ) (l bs : List ℕ) (more : List Entry → Result (List Entry) BookFault) (q : Result (Option Form) BookFault) → AllByRecursion Inner l → ((fs : List Entry) → Outcome fs (n + 1) bs (more fs)) → q ≡ line_form n l → Outcome es n (l ++ line_end ∷ bs) (and_then (placed es n q) more)
 unfolding Outcome Wrong
 line_outcome es n l bs more (Err e) inner rest is = let w = wrong_line n l e is in refused_here es n l bs e inner w.0 (w.1 es)
 line_outcome es n l bs more (Ok None) inner rest is =
@@ -275,7 +275,7 @@ line_outcome es n l bs more (Ok (Some f)) inner rest is =
 cons_some : (l : List ℕ) (ls : List (List ℕ)) → l ∷ ls ≡ [] → ⊥
 cons_some l ls e = let z : ◌≡◌ {A = ℕ} 0 1 = cc in omega arith
 
-outcome : (es : List Entry) (n : ℕ) (ps : List (List ℕ)) → All (All Inner) ps → (ps ≡ [] → ⊥) → Outcome es n (glue ps) (lines_from es n ps)
+outcome : (es : List Entry) (n : ℕ) (ps : List (List ℕ)) → AllByRecursion (AllByRecursion Inner) ps → (ps ≡ [] → ⊥) → Outcome es n (glue ps) (lines_from es n ps)
 unfolding glue
 outcome es n [] inner some = absurd (some refl)
 outcome es n (l ∷ []) inner some = last_outcome es n l inner.0

@@ -4,7 +4,7 @@ use Rattle.std.specs.Option.{option_map}
 use Rattle.std.specs.Str.Parse.{AllDigits, digits_value}
 use Rattle.std.specs.Int.{IsInRange}
 use Rattle.std.specs.Fmt.{signed_decimal}
-use Rattle.std.specs.List.{AllByRecursion as All}
+use Rattle.std.specs.List.{AllByRecursion}
 use Rattle.std.proofs.lemmas.Fmt.{decimal-digits_value, decimal_digit, decimal_nonempty, length-decimal-le, first_decimal, digits_decimal, digits_value-decimal}
 use Rattle.std.proofs.lemmas.Str.Parse.{digits_value_short, digit_from_value, digit_at}
 use Rattle.std.proofs.lemmas.Bool.{cond-true, cond-false, cases_Bool, and_parts, or_cases, leb-true, not-true, eqb-true, eqb-false, ne_eqb}
@@ -68,12 +68,12 @@ numeral-complete (pos n) few =
     cond-false _ _ _ (ne_eqb (get_or (decimal n) 0 0) 45 (λ (h : get_or (decimal n) 0 0 ≡ 45). omega arith)) ∙ ap (option_map pos) (size-complete n few)
 numeral-complete (negsuc m) few = ap below_zero (size-complete (suc m) (omega arith)) ∙ cond-false _ _ _ (above_zero m)
 
-digits_numeric : (ds : List ℕ) → AllDigits 10 ds → All (λ b. numeric b ≡ true) ds
+digits_numeric : (ds : List ℕ) → AllDigits 10 ds → AllByRecursion (λ b. numeric b ≡ true) ds
 digits_numeric [] h = tt
 digits_numeric (c ∷ cs) h = let d = digit_from_value c h.0 in (grind (arith, nat_tests), digits_numeric cs h.1)
 
 -- a written number is a run of digits and minus signs
-pub signed_numeric : (z : ℤ) → Short z → All (λ b. numeric b ≡ true) (signed_decimal z) × (length (signed_decimal z) ≡ 0 → ⊥)
+pub signed_numeric : (z : ℤ) → Short z → AllByRecursion (λ b. numeric b ≡ true) (signed_decimal z) × (length (signed_decimal z) ≡ 0 → ⊥)
 signed_numeric (pos n) few =
     let some = decimal_nonempty n (omega arith) in
     (digits_numeric _ (own.to _ (digits_decimal own n (omega arith))), λ none. omega arith)

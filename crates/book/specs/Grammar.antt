@@ -1,6 +1,6 @@
 -- A book as a text: what a form looks like, what a text of forms is, and when it is a good book. Assumes nothing.
 use Rattle.std.specs.Prelude.{◌≡◌, ℕ, ◌+◌, ◌<◌, ◌≤◌, Bool, true, false, List, [], ◌∷◌, ◌++◌, length, ℤ, pos, negsuc, Some, None, Ok, Err, Option, Result, ◌≢◌, slice_index}
-use Rattle.std.specs.List.{flat_map, AllByRecursion as All}
+use Rattle.std.specs.List.{flat_map, AllByRecursion}
 use Rattle.std.specs.Fmt.{signed_decimal}
 use Rattle.book.specs.declared.faults.BookFault.{BookFault}
 use Rattle.book.specs.declared.faults.BookFault.TheVariants as fault
@@ -49,7 +49,7 @@ form_text f = written (spelling (head_in f)) (numbers_in f)
 
 -- a word is one or more letters from a to z
 abbrev pub Word : List ℕ → Type 0
-Word w = (0 < length w) × All (λ b. letter b ≡ true) w
+Word w = (0 < length w) × AllByRecursion (λ b. letter b ≡ true) w
 
 -- a number has at most four digits
 abbrev pub Short : ℤ → Type 0
@@ -78,7 +78,7 @@ entries_of ls = entries_from 1 ls
 -- a form that may stand after these entries: its numbers are in range, and nothing is given twice or too often
 pub record Fits (es : List Entry) (f : Form) : Type 0 where
   pub ranges : InRange f
-  pub digits : All Short (numbers_in f)
+  pub digits : AllByRecursion Short (numbers_in f)
   pub once : taken es f ≡ false
 
 -- each form of the lines fits after the entries before it
@@ -102,12 +102,12 @@ abbrev pub Faulty : List Entry → List ℕ → Bool → BookFault → Type 0
 Faulty es l ended fault.TooLong = ⊥
 Faulty es l ended (fault.Byte n) = (k : ℕ) × (k < length l) × (allowed (slice_index l k) ≡ false)
 Faulty es l ended (fault.Shape n) =
-    All (λ b. allowed b ≡ true) l × (l ≢ []) × (ended ≡ true → (w : List ℕ) (zs : List ℤ) → Word w → All Short zs → l ≢ written w zs)
+    AllByRecursion (λ b. allowed b ≡ true) l × (l ≢ []) × (ended ≡ true → (w : List ℕ) (zs : List ℤ) → Word w → AllByRecursion Short zs → l ≢ written w zs)
 Faulty es l ended (fault.Form n) =
-    (ended ≡ true) × (w : List ℕ) × (zs : List ℤ) × Word w × All Short zs × (l ≡ written w zs) × ((h : Head) → w ≡ spelling h → length zs ≢ takes h)
+    (ended ≡ true) × (w : List ℕ) × (zs : List ℤ) × Word w × AllByRecursion Short zs × (l ≡ written w zs) × ((h : Head) → w ≡ spelling h → length zs ≢ takes h)
 Faulty es l ended (fault.Range n) =
-    (ended ≡ true) × (h : Head) × (zs : List ℤ) × All Short zs × (length zs ≡ takes h) × (l ≡ written (spelling h) zs) × ((f : Form) → InRange f → head_in f ≡ h → numbers_in f ≢ zs)
-Faulty es l ended (fault.Repeat n) = (ended ≡ true) × (f : Form) × InRange f × All Short (numbers_in f) × (l ≡ form_text f) × (taken es f ≡ true)
+    (ended ≡ true) × (h : Head) × (zs : List ℤ) × AllByRecursion Short zs × (length zs ≡ takes h) × (l ≡ written (spelling h) zs) × ((f : Form) → InRange f → head_in f ≡ h → numbers_in f ≢ zs)
+Faulty es l ended (fault.Repeat n) = (ended ≡ true) × (f : Form) × InRange f × AllByRecursion Short (numbers_in f) × (l ≡ form_text f) × (taken es f ≡ true)
 
 -- a text from line n on, after the entries es of the lines before, is refused for f:
 -- the lines before the faulty one are good, its number is f's, and f is the first fault that it has
@@ -116,7 +116,7 @@ pub record Refused (es : List Entry) (n : ℕ) (bs : List ℕ) (f : BookFault) :
   pub fit : FitAfter es n before
   pub line : List ℕ
   pub ended : Bool
-  pub whole : All (λ b. b ≢ line_end) line
+  pub whole : AllByRecursion (λ b. b ≢ line_end) line
   pub stands : Stands bs (text_of before) line ended
   pub number : line_of f ≡ n + length before
   pub fault : Faulty (es ++ entries_from n before) line ended f

@@ -1,6 +1,6 @@
 -- What a drain is to a receiver of its line, for any sets of places. Assumes nothing.
 use Rattle.std.proofs.Common.{◌≡◌, ℕ, zero, suc, ◌+◌, ◌*◌, ◌/◌, ◌%◌, ◌<◌, ◌≤◌, Bool, true, false, cond, ◌⊎◌, List, [], ◌∷◌, ◌++◌, map, length, sym, refl, ap, ◌∙◌, subst, inl, inr, ⊎_elim, add-one, arith}
-use Rattle.std.specs.List.{AllByRecursion as All}
+use Rattle.std.specs.List.{AllByRecursion}
 use Rattle.std.proofs.ByRecursion.{All-push}
 use Rattle.std.proofs.lemmas.List.{map_push}
 use Rattle.std.proofs.lemmas.Bool.{cases_lt, cases_eq}
@@ -83,15 +83,15 @@ module _ (s t : Places) (room : ℕ) where
   way-to zero = subst Way (sym (written_none s t room)) refl
   way-to (suc n) = subst (λ m. Way (written_below m s t room)) (add-one n) (way-turn n (turn s t room n) (way-to n))
 
-  low_turn : (n : ℕ) → n < count_of_places → Turn s t room n → All (λ k. k < count_of_places) (written_below n s t room) → All (λ k. k < count_of_places) (written_below (n + 1) s t room)
-  low_turn n h (still d e) so = subst (All (λ k. k < count_of_places)) (sym e) so
-  low_turn n h (full d e) so = subst (All (λ k. k < count_of_places)) (sym e) so
-  low_turn n h (next d l e) so = subst (All (λ k. k < count_of_places)) (sym e) (All-push (λ k. k < count_of_places) _ n so h)
+  low_turn : (n : ℕ) → n < count_of_places → Turn s t room n → AllByRecursion (λ k. k < count_of_places) (written_below n s t room) → AllByRecursion (λ k. k < count_of_places) (written_below (n + 1) s t room)
+  low_turn n h (still d e) so = subst (AllByRecursion (λ k. k < count_of_places)) (sym e) so
+  low_turn n h (full d e) so = subst (AllByRecursion (λ k. k < count_of_places)) (sym e) so
+  low_turn n h (next d l e) so = subst (AllByRecursion (λ k. k < count_of_places)) (sym e) (All-push (λ k. k < count_of_places) _ n so h)
 
-  low : (n : ℕ) → n ≤ count_of_places → All (λ k. k < count_of_places) (written_below n s t room)
-  low zero h = subst (All (λ k. k < count_of_places)) (sym (written_none s t room)) tt
+  low : (n : ℕ) → n ≤ count_of_places → AllByRecursion (λ k. k < count_of_places) (written_below n s t room)
+  low zero h = subst (AllByRecursion (λ k. k < count_of_places)) (sym (written_none s t room)) tt
   low (suc n) h =
-      subst (λ m. All (λ k. k < count_of_places) (written_below m s t room)) (add-one n) (low_turn n (omega arith) (turn s t room n) (low n (omega arith)))
+      subst (λ m. AllByRecursion (λ k. k < count_of_places) (written_below m s t room)) (add-one n) (low_turn n (omega arith) (turn s t room n) (low n (omega arith)))
 
   -- while there is room, the places passed stand as they speak
   behind_put : (n r p : ℕ) (u : Places) → p < 128 → 128 * r + p < n + 1 → (128 * r + p < n → u r p ≡ t r p) → put u (n / 128) (n % 128) (holds t n) r p ≡ t r p

@@ -10,8 +10,8 @@ use Rattle.board.specs.declared.wire.Lead.{Lead}
 use Rattle.board.specs.Wires.{Reaches, image, through, ways_to}
 use Rattle.board.specs.Harness.{outlet, meets}
 use Rattle.board.specs.Laws.{either}
-use Rattle.board.specs.Images.{image-ways, ways_free}
-use Rattle.board.specs.Ways.{through-put}
+use Rattle.board.proofs.Images.{image-ways, ways_free}
+use Rattle.board.proofs.Ways.{through-put}
 use Rattle.board.proofs.Shown.{image-law}
 
 -- just these places

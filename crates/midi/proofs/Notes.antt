@@ -1,6 +1,6 @@
 -- Bytes that read as just their own messages wherever they come on a line: note-on, note-off, and one after another.
 use Rattle.std.proofs.Common.{◌≡◌, ℕ, ◌+◌, ◌<◌, ◌≤◌, List, [], ◌∷◌, ◌++◌, map, Some, None, Option, sym, ap, ◌∙◌, append_assoc, append-nil, arith}
-use Rattle.std.specs.List.{flat_map, AllByRecursion as All}
+use Rattle.std.specs.List.{flat_map, AllByRecursion}
 use Rattle.std.specs.Option.{option_to_list}
 use Rattle.std.proofs.lemmas.Bool.Decides.{nat_tests}
 use Rattle.midi.specs.declared.message.Message.{Message}
@@ -51,7 +51,7 @@ pub reads_append : (bs cs : List ℕ) (ms ns : List Message) → ReadsAs bs ms �
 reads_append bs cs ms ns r q line =
     ap reading (sym (append_assoc line bs cs)) ∙ q (line ++ bs) ∙ ap (λ l. l ++ ns) (r line) ∙ append_assoc (reading line) ms ns
 
-pub reads_joined : {X : Type 0} (bytes : X → List ℕ) (says : X → Message) (P : X → Type 0) → ((x : X) → P x → ReadsAs (bytes x) (says x ∷ [])) → (xs : List X) → All P xs → ReadsAs (flat_map bytes xs) (map says xs)
+pub reads_joined : {X : Type 0} (bytes : X → List ℕ) (says : X → Message) (P : X → Type 0) → ((x : X) → P x → ReadsAs (bytes x) (says x ∷ [])) → (xs : List X) → AllByRecursion P xs → ReadsAs (flat_map bytes xs) (map says xs)
 reads_joined bytes says P each [] h = reads_none
 reads_joined bytes says P each (x ∷ xs) h =
     reads_append (bytes x) (flat_map bytes xs) (says x ∷ []) (map says xs) (each x h.0) (reads_joined bytes says P each xs h.1)

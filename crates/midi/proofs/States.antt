@@ -1,7 +1,7 @@
 -- The states of a reader: each that is sound is one that some line leads to, and every step keeps to them.
 use Rattle.std.proofs.Common.{◌≡◌, ℕ, ◌+◌, ◌<◌, true, false, ltb, ◌⊎◌, List, [], ◌∷◌, ◌++◌, IfSome, Some, None, Option, sym, refl, ap, ◌∙◌, subst, inl, inr, arith}
 use Rattle.std.specs.Option.{option_to_list}
-use Rattle.std.specs.List.{AllByRecursion as All}
+use Rattle.std.specs.List.{AllByRecursion}
 use Rattle.std.proofs.lemmas.Bool.{ltb-true, and_parts, cases_Bool}
 use Rattle.std.proofs.lemmas.Bool.Decides.{nat_tests}
 use Rattle.midi.specs.declared.message.Message.{Message}
@@ -90,11 +90,11 @@ module _ (s t : State) (b : ℕ) (m : Option Message) (e : (m, t) ≡ step s b) 
   pub fed_range : IfSome m InRange
   fed_range = subst (λ (p : Option Message × State). IfSome p.0 InRange) (sym e) (range_step s b h)
 
-one_more : (m : Option Message) (ms : List Message) → IfSome m InRange → All InRange ms → All InRange (option_to_list m ++ ms)
+one_more : (m : Option Message) (ms : List Message) → IfSome m InRange → AllByRecursion InRange ms → AllByRecursion InRange (option_to_list m ++ ms)
 one_more None ms h g = g
 one_more (Some x) ms h g = (h, g)
 
-pub handed-range : (s : State) (bs : List ℕ) → sound s ≡ true → All InRange (handed s bs)
+pub handed-range : (s : State) (bs : List ℕ) → sound s ≡ true → AllByRecursion InRange (handed s bs)
 handed-range s [] h = tt
 handed-range s (b ∷ bs) h =
     one_more (step s b).0 (handed (step s b).1 bs) (range_step s b h) (handed-range (step s b).1 bs (sound-step s b h))

@@ -1,7 +1,7 @@
 // The reader of a line.
 ghost use Rattle.std.specs.Prelude.{◌≡◌, ℕ, ◌+◌, ◌<◌, ◌≤◌, true, List, [], ◌∷◌, ◌++◌, length, IfSome, is_ok, if◌then◌else◌, vec_len, vec_capacity, MatchResult};
 ghost use Rattle.std.specs.Option.{option_to_list};
-ghost use Rattle.std.specs.List.{AllByRecursion as All};
+ghost use Rattle.std.specs.List.{AllByRecursion};
 ghost use Rattle.midi.specs.Reading.{reading, InRange};
 ghost use Rattle.midi.specs.Steps.{step, handed, state_after, sound, HasRead, Feeds, CaughtUp};
 
@@ -53,7 +53,7 @@ impl Reader {
         ensures items { out.new.items ≡ (if is_ok result then out.old.items ++ handed self.old.state bytes.now else out.old.items) }
         ensures after { self.new.state ≡ (if is_ok result then state_after self.old.state bytes.now else self.old.state) }
         ensures cases { MatchResult result (λ _. Feeds self.old.state bytes.now (handed self.old.state bytes.now) self.new.state) (λ _. vec_capacity out.old < vec_len out.old + length bytes.now) }
-        ensures range { is_ok result ≡ true → All InRange (handed self.old.state bytes.now) }
+        ensures range { is_ok result ≡ true → AllByRecursion InRange (handed self.old.state bytes.now) }
         ensures whole { is_ok result ≡ true → HasRead self.old.state [] → out.new.items ≡ out.old.items ++ reading bytes.now }
         ensures law { is_ok result ≡ true → (old : List Message) (line : List ℕ) → CaughtUp old line self.old.state out.old.items → CaughtUp old (line ++ bytes.now) self.new.state out.new.items }
     {

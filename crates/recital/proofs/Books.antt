@@ -1,6 +1,6 @@
 -- The lines of a good book are read as its forms. Assumes nothing.
 use Rattle.std.proofs.Common.{◌≡◌, ℕ, ◌+◌, ◌≤◌, true, List, [], ◌∷◌, ◌++◌, length, Some, None, Ok, Option, sym, refl, ap, ◌∙◌, subst}
-use Rattle.std.specs.List.{AllByRecursion as All}
+use Rattle.std.specs.List.{AllByRecursion}
 use Rattle.std.proofs.ByRecursion.{All-weaker}
 use Rattle.std.proofs.lemmas.List.{append-nil, append_assoc}
 use Rattle.std.proofs.lemmas.Bool.{cond-false, ne_eqb, true≢false, le-ltb}
@@ -21,7 +21,7 @@ Inner b = b ≡ line_end → ⊥
 allowed-inner : (b : ℕ) → allowed b ≡ true → Inner b
 allowed-inner b h e = true≢false (sym h ∙ ap allowed e)
 
-cut_line : (l rest : List ℕ) → All Inner l → cut (l ++ line_end ∷ rest) ≡ l ∷ cut rest
+cut_line : (l rest : List ℕ) → AllByRecursion Inner l → cut (l ++ line_end ∷ rest) ≡ l ∷ cut rest
 cut_line [] rest all = refl
 cut_line (b ∷ l) rest all = cond-false _ _ _ (ne_eqb b line_end all.0) ∙ ap (onto_first b) (cut_line l rest all.1)
 

@@ -3,7 +3,7 @@ use Rattle.std.proofs.Common.{◌≡◌, ℕ, ◌+◌, true, cond, get_or, Some,
 use Rattle.std.proofs.lemmas.Bool.Decides.{nat_tests}
 use Rattle.board.specs.Harness.{wires, outlet, meets, beneath, panel, blank}
 use Rattle.board.specs.Counts.{at_place, one_at}
-use Rattle.board.specs.Sums.{walked_none, walked_all}
+use Rattle.board.proofs.Sums.{walked_none, walked_all}
 use Rattle.board.proofs.Counting.{wires-len, outlet-within, key_room, key_more}
 use Rattle.board.proofs.counts.count_key.Goals as goal
 use Rattle.board.proofs.counts.count_key.Goals.{in-Some, in_default}

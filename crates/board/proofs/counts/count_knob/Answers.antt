@@ -3,7 +3,7 @@ use Rattle.std.proofs.Common.{◌+◌, cond, get_or, sym, ap, ◌∙◌, arith}
 use Rattle.board.specs.Wires.{span}
 use Rattle.board.specs.Harness.{wires, beneath, register, blank}
 use Rattle.board.specs.Counts.{at_place}
-use Rattle.board.specs.Sums.{walked_none, walked_all}
+use Rattle.board.proofs.Sums.{walked_none, walked_all}
 use Rattle.board.proofs.Counting.{wires-len, knob_room, knob_more, knob_stays}
 use Rattle.board.proofs.counts.count_knob.Goals as goal
 use Rattle.board.proofs.counts.count_knob.Goals.{in-Some, in_default}

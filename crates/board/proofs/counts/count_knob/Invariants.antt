@@ -4,7 +4,7 @@ use Rattle.chest.specs.Meaning.{knob_to}
 use Rattle.board.specs.Wires.{through}
 use Rattle.board.specs.Harness.{beneath, register, panel, wires}
 use Rattle.board.specs.Counts.{at_place}
-use Rattle.board.specs.Sums.{walked}
+use Rattle.board.proofs.Sums.{walked}
 use Rattle.board.proofs.counts.count_knob.Given as goal
 
 abbrev pub invariant-loop-i : goal.invariant-loop-i

@@ -3,7 +3,7 @@ use Rattle.std.proofs.Common.{◌≡◌, ℕ, ◌+◌, true, cond, ◌&&◌, eqb
 use Rattle.std.proofs.lemmas.Bool.Decides.{nat_tests}
 use Rattle.board.specs.Harness.{beneath, register}
 use Rattle.board.specs.Counts.{at_place, one_at}
-use Rattle.board.specs.Ways.{lands-below}
+use Rattle.board.proofs.Ways.{lands-below}
 use Rattle.board.proofs.Counting.{place_within, wire_none, wire_stays, wire_all, wire_more, wire_room}
 use Rattle.board.proofs.counts.count_wire.Goals as goal
 use Rattle.board.proofs.counts.count_wire.Goals.{in-Some, in_default}

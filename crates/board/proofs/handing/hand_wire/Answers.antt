@@ -2,8 +2,8 @@
 use Rattle.std.proofs.Common.{◌+◌, sym, ◌∙◌, arith}
 use Rattle.board.specs.Wires.{way}
 use Rattle.board.specs.Layout.{layout}
-use Rattle.board.specs.Sums.{some-none, some-past}
-use Rattle.board.specs.Ways.{way-low, way-high, lands-below}
+use Rattle.board.proofs.Sums.{some-none, some-past}
+use Rattle.board.proofs.Ways.{way-low, way-high, lands-below}
 use Rattle.board.proofs.Counting.{place_within}
 use Rattle.board.proofs.Walks.{handed-none, handed-as}
 use Rattle.board.proofs.Steps.{wire_none, wire_put}

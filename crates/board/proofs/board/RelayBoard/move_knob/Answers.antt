@@ -4,7 +4,7 @@ use Rattle.chest.specs.Meaning.{Meaning, knob_to, with_panel}
 use Rattle.board.specs.Layout.{layout}
 use Rattle.board.specs.Board.{board_meaning, Stands}
 use Rattle.board.proofs.Walks.{turn_done}
-use Rattle.board.specs.Boards.{turn_board}
+use Rattle.board.proofs.Boards.{turn_board}
 use Rattle.board.proofs.board.RelayBoard.move_knob.Goals as goal
 
 pub returns : goal.returns

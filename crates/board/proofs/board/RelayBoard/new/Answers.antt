@@ -4,7 +4,7 @@ use Rattle.chest.specs.Places.{none}
 use Rattle.chest.specs.Meaning.{with_register}
 use Rattle.board.specs.Wires.{reach_of}
 use Rattle.board.specs.Layout.{layout}
-use Rattle.board.specs.Boards.{cleared, new-board}
+use Rattle.board.proofs.Boards.{cleared, new-board}
 use Rattle.board.proofs.board.RelayBoard.new.Goals as goal
 
 pub returns : goal.returns

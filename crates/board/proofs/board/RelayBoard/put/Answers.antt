@@ -1,7 +1,7 @@
 -- The answer for `RelayBoard::put`: the key is put and handed down.
 use Rattle.std.proofs.Common.{sym, ◌∙◌}
 use Rattle.board.specs.Layout.{layout}
-use Rattle.board.specs.Boards.{set-board}
+use Rattle.board.proofs.Boards.{set-board}
 use Rattle.board.proofs.board.RelayBoard.put.Goals as goal
 
 pub returns : goal.returns

@@ -1,7 +1,7 @@
 -- The answers for `has_key`: each key is looked at once.
 use Rattle.std.proofs.Common.{◌||◌, sym, ◌∙◌}
 use Rattle.board.specs.Harness.{register}
-use Rattle.board.specs.Sums.{some-zero, some-found, some_more}
+use Rattle.board.proofs.Sums.{some-zero, some-found, some_more}
 use Rattle.board.proofs.harness.Harness.has_key.Goals as goal
 
 pub loop-key-init : goal.loop-key-init

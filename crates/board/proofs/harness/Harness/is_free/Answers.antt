@@ -2,7 +2,7 @@
 use Rattle.std.proofs.Common.{not, ◌||◌, sym, ap, ◌∙◌}
 use Rattle.board.specs.Wires.{some}
 use Rattle.board.specs.Harness.{register}
-use Rattle.board.specs.Sums.{some-zero, some-found, some_more}
+use Rattle.board.proofs.Sums.{some-zero, some-found, some_more}
 use Rattle.board.proofs.harness.Harness.is_free.Goals as goal
 
 pub loop-row-init : goal.loop-row-init

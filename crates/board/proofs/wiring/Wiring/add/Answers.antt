@@ -3,7 +3,7 @@ use Rattle.std.proofs.Common.{◌<◌, length, sym, ap, ◌∙◌, arith}
 use Rattle.std.proofs.lemmas.List.{length-set, take_more_set}
 use Rattle.board.specs.Wires.{ways_to}
 use Rattle.board.specs.Layout.{layout}
-use Rattle.board.specs.Images.{ways_push_free}
+use Rattle.board.proofs.Images.{ways_push_free}
 use Rattle.board.proofs.wiring.Wiring.add.Goals as goal
 
 pub invariant_of-self : goal.invariant_of-self

@@ -8,7 +8,7 @@ use Rattle.chest.specs.Meaning.{Panel}
 use Rattle.chest.proofs.Totals.{total-zero}
 use Rattle.board.specs.declared.wire.Lead.{Lead}
 use Rattle.board.specs.Wires.{Reaches, live, way, some, some_wire, image, span, through, ways_to}
-use Rattle.board.specs.Sums.{some-total}
+use Rattle.board.proofs.Sums.{some-total}
 
 either-above : (x y : Bool) (m n : ℕ) → x ≡ nat_lt 0 m → y ≡ nat_lt 0 n → (x || y) ≡ nat_lt 0 (m + n)
 either-above x y m n e f = grind (arith, nat_tests)

@@ -1,5 +1,5 @@
 -- A board over a chest: after a key is put, or a knob turned, and handed down, it is settled again. Assumes nothing.
-use Rattle.std.specs.Prelude.{◌≡◌, ℕ, ◌+◌, ◌<◌, ◌≤◌, Bool, true, false, cond, ◌&&◌, ltb, ◌≢◌, List, [], ◌∷◌, is_some, Some, None, Option, nat_lt, refl}
+use Rattle.std.specs.Prelude.{◌≡◌, ℕ, ◌+◌, ◌<◌, Bool, true, false, cond, ◌&&◌, ltb, ◌≢◌, List, [], ◌∷◌, is_some, Some, None, Option, nat_lt, refl}
 use Rattle.std.proofs.Common.{sym, ap, subst, ◌∙◌, arith}
 use Rattle.std.proofs.lemmas.List.Sums.{sum_by-cons}
 use Rattle.std.proofs.lemmas.Bool.{or_parts, false≢true}
@@ -13,9 +13,9 @@ use Rattle.board.specs.Layout.{Layout, with_key, with_knob, image_of}
 use Rattle.board.specs.Board.{board_meaning, Stands}
 use Rattle.board.specs.Making.{rows_cleared, panel_of, bare, new_meaning}
 use Rattle.board.specs.Handing.{from_key, from_knob, mixed}
-use Rattle.board.specs.Sums.{some-total}
-use Rattle.board.specs.Ways.{Swung, through-put, through-swing}
-use Rattle.board.specs.Images.{image-ways, image-free}
+use Rattle.board.proofs.Sums.{some-total}
+use Rattle.board.proofs.Ways.{Swung, through-put, through-swing}
+use Rattle.board.proofs.Images.{image-ways, image-free}
 
 -- a place to which no wire leads from the key has as many ways as before
 key_untouched : (reach : Reaches) (ws : List Lead) (panel : Panel) (s : Places) (row key : ℕ) (on : Bool) (b q : ℕ) → some_wire (λ w. meets (outlet reach panel w row key) b q) ws ≡ false → ways_to reach ws panel (put s row key on) b q ≡ ways_to reach ws panel s b q
@@ -110,16 +110,6 @@ module _ (l : Layout) (m : Meaning) (st : Stands l m) where
         below : m' ≡ with_register m (image_of new)
         below =
             is ∙ ap (λ x. with_register m (mixed (from_knob x knob from to) (image_of x) m.register)) lay ∙ ap (with_register m) knob_image
-
--- an empty register has an empty image, so the rule is silent
-pub board_quiet : (l : Layout) (m : Meaning) (panel : Panel) → m.rule panel none ≡ none → (board_meaning l m).rule panel none ≡ none
-board_quiet l m panel quiet =
-    ap (m.rule panel) (image-free m.reach l.wires panel none (λ r p. refl)) ∙ quiet
-
--- rows and places of a board's own, and the rest as below
-pub board_bounded : (l : Layout) (m : Meaning) → ((r : ℕ) → l.reach r ≤ 128) → ((r : ℕ) → 16 ≤ r → l.reach r ≡ 0) → ((r p : ℕ) → l.register r p ≡ true → p < l.reach r) → Bounded m → Bounded (board_meaning l m)
-board_bounded l m reaches rows register b =
-    record { reaches = reaches; rows = rows; register = register; positions = b.positions; knobs = b.knobs; pipes = b.pipes; strobes = b.strobes }
 
 -- every place that can be set below is cleared
 pub cleared : (m : Meaning) → Bounded m → (rows_cleared m 16).register ≡ none

@@ -9,7 +9,7 @@ use Rattle.chest.specs.Meaning.{Panel, knob_to}
 use Rattle.board.specs.declared.wire.Lead.{Lead}
 use Rattle.board.specs.Wires.{Reaches, live, landing, is_at, leads, way, span, through}
 use Rattle.board.specs.Harness.{outlet, meets, swing}
-use Rattle.board.specs.Sums.{total-change, total-once}
+use Rattle.board.proofs.Sums.{total-change, total-once}
 
 -- a key lands at place q if key + shift is q, and q below the reach
 pub landing_is : (raise reach key q : ℕ) → is_at (landing raise reach key) q ≡ (key + raise == q + 96 && nat_lt q reach)
