@@ -128,9 +128,9 @@ both-keys reach panel s t b q w =
     by true x y = refl
     by false x y = refl
 
-keys-joined : (reach : Reaches) (ws : List Lead) (panel : Panel) (s t : Places) → image reach ws panel (either s t) ≡ either (image reach ws panel s) (image reach ws panel t)
+keys_joined : (reach : Reaches) (ws : List Lead) (panel : Panel) (s t : Places) → image reach ws panel (either s t) ≡ either (image reach ws panel s) (image reach ws panel t)
 unfolding image
-keys-joined reach ws panel s t = λ i b q. (some_wire-as _ _ (both-keys reach panel s t b q) ws ∙ some_wire-either (λ w. live panel w && some (w.highest + 1) (way reach s w b q)) (λ w. live panel w && some (w.highest + 1) (way reach t w b q)) ws) i
+keys_joined reach ws panel s t = λ i b q. (some_wire-as _ _ (both-keys reach panel s t b q) ws ∙ some_wire-either (λ w. live panel w && some (w.highest + 1) (way reach s w b q)) (λ w. live panel w && some (w.highest + 1) (way reach t w b q)) ws) i
 
 wires-joined : (reach : Reaches) (vs ws : List Lead) (panel : Panel) (s : Places) → image reach (vs ++ ws) panel s ≡ either (image reach vs panel s) (image reach ws panel s)
 unfolding image
@@ -148,7 +148,7 @@ image-law =
       exact = image-exact;
       shift = λ w e. shift_kept w.shift e;
       silent = λ reach ws panel. image-free reach ws panel none (λ r p. refl);
-      keys = keys-joined;
+      keys = keys_joined;
       grows = grown;
       wires = wires-joined;
       counted = image-ways;

@@ -58,8 +58,8 @@ module _ (b : Book) (es : List Entry) (h : Holds b es) (e : Entry) where
   pub divisions_stay : ((r : ℕ) → keys_of r e.form ≡ None) → (r : ℕ) → r < rows → row_at b.divisions r ≡ said (keys_of r) (es ++ e ∷ [])
   divisions_stay silent = same_table rows keys_of es e (row_at b.divisions) silent h.divisions
 
-  pub ranks-stay : ((r : ℕ) → pipes_of r e.form ≡ None) → (r : ℕ) → r < rows → row_at b.ranks r ≡ said (pipes_of r) (es ++ e ∷ [])
-  ranks-stay silent = same_table rows pipes_of es e (row_at b.ranks) silent h.ranks
+  pub ranks_stay : ((r : ℕ) → pipes_of r e.form ≡ None) → (r : ℕ) → r < rows → row_at b.ranks r ≡ said (pipes_of r) (es ++ e ∷ [])
+  ranks_stay silent = same_table rows pipes_of es e (row_at b.ranks) silent h.ranks
 
   pub knobs-stay : ((k : ℕ) → knob_of k e.form ≡ None) → (k : ℕ) → k < knobs → knob_at b.knobs k ≡ said (knob_of k) (es ++ e ∷ [])
   knobs-stay silent = same_table knobs knob_of es e (knob_at b.knobs) silent h.knobs

@@ -105,8 +105,8 @@ module _ (t start : Places) (buffer : List ℕ) (r p : ℕ) (hp : p < 128) (sent
       subst (λ (x : ℕ × ℕ × Bool). UpTo (128 * r + p + 1) t start buffer (put sent x.0 x.1 x.2) (paste out w (message_bytes x.2 x.0 x.1) 3) (w + 3)) (λ i. (row i, place i, holds_at t r p hp i)) (send t start buffer (128 * r + p) sent out w u (apart ∙ e) h)
 
   -- the same, where the code has come to these values
-  pub place_drained : (sent-after : Places) (out-after : List ℕ) → sent-after ≡ put sent r p (t r p) → out-after ≡ paste out w (message_bytes (t r p) r p) 3 → differ (sent r p) (t r p) ≡ true → w + 3 ≤ length out → UpTo (128 * r + p + 1) t start buffer sent-after out-after (w + 3)
-  place_drained sent-after out-after puts pastes e h =
+  pub place_drained : (sent_after : Places) (out_after : List ℕ) → sent_after ≡ put sent r p (t r p) → out_after ≡ paste out w (message_bytes (t r p) r p) 3 → differ (sent r p) (t r p) ≡ true → w + 3 ≤ length out → UpTo (128 * r + p + 1) t start buffer sent_after out_after (w + 3)
+  place_drained sent_after out_after puts pastes e h =
       subst (λ (x : Places × List ℕ). UpTo (128 * r + p + 1) t start buffer x.0 x.1 (w + 3)) (λ i. (sym puts i, sym pastes i)) (place_sent e h)
 
 -- at another name of the same number

@@ -33,8 +33,8 @@ worked_cases =
       note_presses = refl;
       system_inside = lines.system_inside;
       one_fits = lines.one_fits;
-      none-fits = lines.none-fits;
-      first-told = lines.first-told;
+      none_fits = lines.none-fits;
+      first_told = lines.first-told;
       none_told = lines.none_told;
-      rest-told = (lines.rest-told, lines.all_told);
+      rest_told = (lines.rest-told, lines.all_told);
     }

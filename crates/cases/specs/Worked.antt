@@ -90,10 +90,10 @@ pub record WorkedCases : Type 0 where
   -- two pipes are pending: a drain into 5 bytes writes the message of the first, and it alone is sent
   pub one_fits : (sent speaking : Places) (m n : ℕ) → pending sent speaking count_of_places ≡ m ∷ n ∷ [] → drained sent speaking 5 ≡ record { bytes = spelled speaking m; sent = put sent (m / 128) (m % 128) (holds speaking m) }
   -- and one into 2 bytes writes none
-  pub none-fits : (sent speaking : Places) (m n : ℕ) → pending sent speaking count_of_places ≡ m ∷ n ∷ [] → drained sent speaking 2 ≡ record { bytes = []; sent = sent }
+  pub none_fits : (sent speaking : Places) (m n : ℕ) → pending sent speaking count_of_places ≡ m ∷ n ∷ [] → drained sent speaking 2 ≡ record { bytes = []; sent = sent }
   -- so pipe 12 of rank 0 is told before pipe 5 of rank 3, in 3 bytes of 5
-  pub first-told : drained none two_pipes 5 ≡ record { bytes = 0x90 ∷ 12 ∷ 64 ∷ []; sent = put none 0 12 true }
+  pub first_told : drained none two_pipes 5 ≡ record { bytes = 0x90 ∷ 12 ∷ 64 ∷ []; sent = put none 0 12 true }
   -- into 2 bytes neither is
   pub none_told : drained none two_pipes 2 ≡ record { bytes = []; sent = none }
   -- and the next drain tells pipe 5 of rank 3, after which nothing is pending
-  pub rest-told : (drained (put none 0 12 true) two_pipes 5 ≡ record { bytes = 0x93 ∷ 5 ∷ 64 ∷ []; sent = two_pipes }) × (pending two_pipes two_pipes count_of_places ≡ [])
+  pub rest_told : (drained (put none 0 12 true) two_pipes 5 ≡ record { bytes = 0x93 ∷ 5 ∷ 64 ∷ []; sent = two_pipes }) × (pending two_pipes two_pipes count_of_places ≡ [])

@@ -20,8 +20,8 @@ blank-keys = λ i d k. one d k i where
   one : (d k : ℕ) → key_at (replicate 2048 false) d k ≡ false
   one d k = let z = getD_blank 2048 (128 * d + k) false in grind (arith, nat_tests)
 
-pub keys-blank : record { down = key_at (replicate 2048 false); sustained = key_at (replicate 2048 false); sustain = switch_at (replicate 16 false) } ≡ no_keys
-keys-blank = λ i. record { down = blank-keys i; sustained = blank-keys i; sustain = λ d. getD_blank 16 d false i }
+pub keys_blank : record { down = key_at (replicate 2048 false); sustained = key_at (replicate 2048 false); sustain = switch_at (replicate 16 false) } ≡ no_keys
+keys_blank = λ i. record { down = blank-keys i; sustained = blank-keys i; sustain = λ d. getD_blank 16 d false i }
 
 scope_blank : (n q : ℕ) (x : Piston) → x.scope ≡ None → (get_or (replicate n x) q blank).scope ≡ None
 scope_blank zero q x e = refl

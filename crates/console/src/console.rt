@@ -29,11 +29,12 @@ impl<C: Chest> Console<C> {
         clear_rows(&mut chest);
         reset_knobs(&mut chest, &knobs);
         let _ = chest.strobe();
+        let keys = KeyTable::new();
         Console {
             chest,
             knobs,
             pistons: pistons.released(),
-            keys: KeyTable::new(),
+            keys,
         }
     }
 

@@ -3,10 +3,10 @@
 
 mod report;
 
-use anyhow::anyhow;
 use book::{Board, Book, BookReader, KNOBS, PISTONS, ROWS};
 use report::refusal;
 use std::io::ErrorKind;
+use std::process::ExitCode;
 use std::{fs, io};
 
 // The bytes of the file: none where it is missing.
@@ -70,17 +70,17 @@ fn print_book(rt: &HostRuntime, book: &Book) -> io::Result<()> {
     println!(rt; "  stop board: {stops}")
 }
 
-fn main(rt: HostRuntime) -> anyhow::Result<()> {
+fn main(rt: HostRuntime) -> anyhow::Result<ExitCode> {
     let text = book_text(&rt)?;
     let reader = BookReader::new(rt.alloc())?;
     match reader.read(text.as_slice()) {
         Ok(book) => {
             print_book(&rt, &book)?;
-            Ok(())
+            Ok(ExitCode::SUCCESS)
         }
         Err(fault) => {
             rt.println(refusal(rt.alloc(), fault)?)?;
-            Err(anyhow!("the book is refused"))
+            Ok(ExitCode::FAILURE)
         }
     }
 }

@@ -38,8 +38,8 @@ module _ {C : Type 0} {meaning : C → Meaning} {settled : C → Type 0} {c : Co
   kept {e = e} calls answers is old =
       subst (λ x. Recorded meaning settled c s p x (answers ++ []) e) (sym (append-nil calls)) (subst (λ x. Recorded meaning settled c s p calls x e) (sym (append-nil answers)) (subst (Recorded meaning settled c s p calls answers) (sym is) old))
 
-  pub answered-none : (xs : List ℕ) → Tracks meaning settled c s p → Answered meaning settled c c s p [] xs xs
-  answered-none xs t = record { outcomes = []; are = tt; recorded = recorded_none t; lines = sym (append-nil xs) }
+  pub answered_none : (xs : List ℕ) → Tracks meaning settled c s p → Answered meaning settled c c s p [] xs xs
+  answered_none xs t = record { outcomes = []; are = tt; recorded = recorded_none t; lines = sym (append-nil xs) }
 
   module _ {d e : Console C} {ms : List Message} {before mid after : List ℕ} (m : Message) (old : Answered meaning settled c d s p ms before mid) where
     -- an outcome more, with the record that goes with it
@@ -59,5 +59,5 @@ module _ {C : Type 0} {meaning : C → Meaning} {settled : C → Type 0} {c : Co
         push (did call r.0) (subst (λ x. IsOf x (did call r.0)) (sym is) refl) (recorded_more {d = d} {e = e} call r.0 old.recorded r.1) r.2
     more (LowNote division note) is r = push low (subst (λ x. IsOf x low) (sym is) tt) (kept (flat_map call_in old.outcomes) (flat_map answer_in old.outcomes) r.0 old.recorded) r.1
 
-    pub answered-more : Responds meaning settled (action_of m) d e mid after → Answered meaning settled c e s p (ms ++ m ∷ []) before after
-    answered-more = more (action_of m) refl
+    pub answered_more : Responds meaning settled (action_of m) d e mid after → Answered meaning settled c e s p (ms ++ m ∷ []) before after
+    answered_more = more (action_of m) refl

@@ -19,12 +19,12 @@ use Rattle.organ.specs.Tables.{book_steps, book_home, book_scope}
 use Rattle.organ.specs.Opening.{book_setup, organ_meaning, OrganTracks, Opens}
 
 module _ {C : Type 0} (meaning : C → Meaning) (settled : C → Type 0) (b : Book) (m : Meaning) (stack : RelayBoard (RelayBoard C)) (c : Console (RelayBoard (RelayBoard C))) (knobs : KnobTable) (pistons : PistonTable) where
-  abbrev stack-means : RelayBoard (RelayBoard C) → Meaning
-  stack-means = meaning_of (meaning_of meaning)
+  abbrev stack_means : RelayBoard (RelayBoard C) → Meaning
+  stack_means = meaning_of (meaning_of meaning)
 
-  pub opens : (h : Result Hung Refusal) → Assembles meaning settled (keys_in b) m h (Ok stack) → Makes stack-means (Settled (meaning_of meaning) (Settled meaning settled)) stack knobs pistons c → ((k : ℕ) → steps_of knobs.steps k ≡ book_steps b k) → ((k : ℕ) → home_of knobs.homes k ≡ book_home b k) → ((q : ℕ) → scope_of pistons.pistons q ≡ book_scope b q) → Opens meaning settled b m h (Ok c)
+  pub opens : (h : Result Hung Refusal) → Assembles meaning settled (keys_in b) m h (Ok stack) → Makes stack_means (Settled (meaning_of meaning) (Settled meaning settled)) stack knobs pistons c → ((k : ℕ) → steps_of knobs.steps k ≡ book_steps b k) → ((k : ℕ) → home_of knobs.homes k ≡ book_home b k) → ((q : ℕ) → scope_of pistons.pistons q ≡ book_scope b q) → Opens meaning settled b m h (Ok c)
   opens (Ok h) made makes steps homes scopes =
       let done = makes made.0 in
-      let setup : setup_of (stack-means stack).reach knobs pistons ≡ book_setup b = λ i. record { reach = (made.1 i).reach; steps = λ k. steps k i; home = λ k. homes k i; scope = λ q. scopes q i } in
-      (subst (λ x. Making x (stack_meaning (keys_in b) m h) (organ_meaning meaning settled c)) setup (subst (λ x. Making (setup_of (stack-means stack).reach knobs pistons) x (organ_meaning meaning settled c)) made.1 done.0), subst (λ x. OrganTracks meaning settled c x (first x)) setup done.1)
+      let setup : setup_of (stack_means stack).reach knobs pistons ≡ book_setup b = λ i. record { reach = (made.1 i).reach; steps = λ k. steps k i; home = λ k. homes k i; scope = λ q. scopes q i } in
+      (subst (λ x. Making x (stack_meaning (keys_in b) m h) (organ_meaning meaning settled c)) setup (subst (λ x. Making (setup_of (stack_means stack).reach knobs pistons) x (organ_meaning meaning settled c)) made.1 done.0), subst (λ x. OrganTracks meaning settled c x (first x)) setup done.1)
   opens (Err e) made makes steps homes scopes = absurd made

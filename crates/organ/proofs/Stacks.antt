@@ -68,8 +68,8 @@ module _ (keys : Reaches) (m : Meaning) (ws : List BookWire) where
   hung x y c s = λ i. both (c i) (s i)
 
   -- and what the stack then means
-  pub stack-means : (couplers stops : Layout) (foot below : Meaning) → fit_run Coupler (stop_meaning keys m []) (coupler_layout keys m []) ws ≡ Ok couplers → fit_run Stop m (stop_layout keys m []) ws ≡ Ok stops → foot ≡ with_register m none → below ≡ with_register (board_meaning stops foot) none → board_meaning couplers below ≡ stack_meaning keys m (record { couplers = couplers.wires; stops = stops.wires })
-  stack-means couplers stops foot below c s f b =
+  pub stack_means : (couplers stops : Layout) (foot below : Meaning) → fit_run Coupler (stop_meaning keys m []) (coupler_layout keys m []) ws ≡ Ok couplers → fit_run Stop m (stop_layout keys m []) ws ≡ Ok stops → foot ≡ with_register m none → below ≡ with_register (board_meaning stops foot) none → board_meaning couplers below ≡ stack_meaning keys m (record { couplers = couplers.wires; stops = stops.wires })
+  stack_means couplers stops foot below c s f b =
       let lc = run_wires Coupler (stop_meaning keys m []) (coupler_layout keys m []) couplers ws c in
       let ls = run_wires Stop m (stop_layout keys m []) stops ws s in
       (λ i. board_meaning (lc i) (b i)) ∙ (λ i. board_meaning (coupler_layout keys m couplers.wires) (with_register (board_meaning (ls i) (f i)) none))
@@ -104,7 +104,7 @@ module _ {C : Type 0} {meaning : C → Meaning} {settled : C → Type 0} (keys :
   hangs f (Ok u) (Ok v) c s =
       let cr = f.coupler _ c in
       let sr = f.stop _ s in
-      subst (λ h. Hangs meaning settled keys m h c1 (Ok tt)) (sym (hung keys m ws _ _ cr sr)) (f.steady, stack-means keys m ws (layout c1.wiring) (layout s1.wiring) (meaning s1.below) (meaning_of meaning c1.below) cr sr f.foot f.low)
+      subst (λ h. Hangs meaning settled keys m h c1 (Ok tt)) (sym (hung keys m ws _ _ cr sr)) (f.steady, stack_means keys m ws (layout c1.wiring) (layout s1.wiring) (meaning s1.below) (meaning_of meaning c1.below) cr sr f.foot f.low)
   hangs f (Ok u) (Err b) c s =
       subst (λ h. Hangs meaning settled keys m h c1 (Err b)) (sym (hung keys m ws _ _ (f.coupler _ c) (f.stop _ s))) refl
   hangs f (Err a) (Ok v) c s =

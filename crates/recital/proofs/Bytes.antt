@@ -9,7 +9,7 @@ use Rattle.midi.specs.Steps.{HasRead, Feeds}
 use Rattle.console.specs.declared.console.Console.{Console}
 use Rattle.console.specs.Model.{Setup, Model}
 use Rattle.organ.specs.Lines.{Answered}
-use Rattle.organ.proofs.Answering.{answered-none, answered-more}
+use Rattle.organ.proofs.Answering.{answered_none, answered_more}
 use Rattle.recital.specs.declared.playing.Recital.{Recital}
 use Rattle.recital.specs.Playing.{Response, Hears, GoesOn}
 
@@ -30,11 +30,11 @@ module _ {C : Type 0} {meaning : C → Meaning} {settled : C → Type 0} where
   answered-so : {c : Console C} {s : Setup} {p : Model} (d e : Console C) (ms : List Message) (before mid after : List ℕ) (m : Option Message) → Answered meaning settled c d s p ms before mid → Response meaning settled m d e mid after → Answered meaning settled c e s p (ms ++ option_to_list m) before after
   answered-so {c} {s} {p} d e ms before mid after None old r =
       subst (λ x. Answered meaning settled c e s p x before after) (sym (append-nil ms)) (subst (λ x. Answered meaning settled c x s p ms before after) (sym r.0) (subst (λ x. Answered meaning settled c d s p ms before x) (sym r.1) old))
-  answered-so d e ms before mid after (Some m) old r = answered-more m old r
+  answered-so d e ms before mid after (Some m) old r = answered_more m old r
 
   pub goes_none : (r : Recital C) (xs : List ℕ) → GoesOn meaning settled r r [] xs xs
   goes_none r xs =
-      record { messages = []; feeds = feeds_none r.reader.state; answered = λ s p t. answered-none xs t }
+      record { messages = []; feeds = feeds_none r.reader.state; answered = λ s p t. answered_none xs t }
 
   pub goes_more : (r q w : Recital C) (bs before mid after : List ℕ) (b : ℕ) → GoesOn meaning settled r q bs before mid → Hears meaning settled q w b mid after → GoesOn meaning settled r w (bs ++ b ∷ []) before after
   goes_more r q w bs before mid after b old new =

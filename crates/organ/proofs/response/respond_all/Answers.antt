@@ -5,11 +5,11 @@ use Rattle.midi.specs.declared.message.Message.TheVariants.{NoteOff}
 use Rattle.organ.specs.Actions.{action_of}
 use Rattle.organ.specs.Responses.{Responds}
 use Rattle.organ.specs.Lines.{Answered}
-use Rattle.organ.proofs.Answering.{ok_so, answered-none, answered-more}
+use Rattle.organ.proofs.Answering.{ok_so, answered_none, answered_more}
 use Rattle.organ.proofs.response.respond_all.Goals as goal
 
 pub loop-i-init : goal.loop-i-init
-loop-i-init g c = ((omega arith, omega arith), λ s p t. answered-none (vec_items c.args.listing.now) t)
+loop-i-init g c = ((omega arith, omega arith), λ s p t. answered_none (vec_items c.args.listing.now) t)
 
 pub loop-i-preserved : goal.loop-i-preserved
 loop-i-preserved g c = (
@@ -19,7 +19,7 @@ loop-i-preserved g c = (
       let i = c.loop-i.i in
       let m = get_or ms i (NoteOff 0 0 0) in
       let response = ok_so c.respond.result (Responds g.C.Chest.meaning g.C.Chest.settled (action_of m) c.loop-i.console c.respond.new.console (vec_items c.loop-i.listing) (vec_items c.respond.new.listing)) (sym c.if-is_err.ensures.value) c.respond.ensures.answers in
-      rw (take_more ms i (NoteOff 0 0 0) c.loop-i-test.true) (answered-more m (c.loop-i.invariant.1 s p t) response),
+      rw (take_more ms i (NoteOff 0 0 0) c.loop-i-test.true) (answered_more m (c.loop-i.invariant.1 s p t) response),
 )
 
 pub returns : goal.returns

@@ -3,7 +3,7 @@ use Rattle.std.proofs.lemmas.Bool.{lt-leb}
 use Rattle.book.specs.Entries.{Entry, keys_of, pipes_of, knob_of, scope_of, wire_of, wires_of, taken, InRange}
 use Rattle.book.specs.Limits.{rows, knobs, pistons, most_wires}
 use Rattle.book.specs.Tables.{row_at, knob_at, scope_at}
-use Rattle.book.proofs.Said.{more_table, divisions_stay, ranks-stay, knobs-stay, pistons-stay, wires-stay, wires-grow}
+use Rattle.book.proofs.Said.{more_table, divisions_stay, ranks_stay, knobs-stay, pistons-stay, wires-stay, wires-grow}
 use Rattle.book.proofs.record.Book.put.Goals as goal
 
 pub returns-in-Keys : goal.returns-in-Keys
@@ -16,7 +16,7 @@ returns-in-Keys c =
           let e : Entry = record { line = c.args.line; form = c.args.form } in
           record {
             divisions = more_table rows keys_of es e (row_at c.args.self.now.divisions) _ c.in-Keys.row c.in-Keys.reach _ c.give.ensures done (λ j. ap (keys_of j) is) h.divisions;
-            ranks = ranks-stay _ es h e (λ j. ap (pipes_of j) is);
+            ranks = ranks_stay _ es h e (λ j. ap (pipes_of j) is);
             knobs = knobs-stay _ es h e (λ j. ap (knob_of j) is);
             pistons = pistons-stay _ es h e (λ j. ap (scope_of j) is);
             wires = wires-stay _ es h e (ap (λ f. wire_of (record { line = c.args.line; form = f })) is);
@@ -50,7 +50,7 @@ returns-in-Knob c =
           let e : Entry = record { line = c.args.line; form = c.args.form } in
           record {
             divisions = divisions_stay _ es h e (λ j. ap (keys_of j) is);
-            ranks = ranks-stay _ es h e (λ j. ap (pipes_of j) is);
+            ranks = ranks_stay _ es h e (λ j. ap (pipes_of j) is);
             knobs = more_table knobs knob_of es e (knob_at c.args.self.now.knobs) _ c.in-Knob.knob (record { steps = c.in-Knob.steps; home = c.in-Knob.home }) _ c.give-in-Knob.ensures done (λ j. ap (knob_of j) is) h.knobs;
             pistons = pistons-stay _ es h e (λ j. ap (scope_of j) is);
             wires = wires-stay _ es h e (ap (λ f. wire_of (record { line = c.args.line; form = f })) is);
@@ -67,7 +67,7 @@ returns-in-Piston c =
           let e : Entry = record { line = c.args.line; form = c.args.form } in
           record {
             divisions = divisions_stay _ es h e (λ j. ap (keys_of j) is);
-            ranks = ranks-stay _ es h e (λ j. ap (pipes_of j) is);
+            ranks = ranks_stay _ es h e (λ j. ap (pipes_of j) is);
             knobs = knobs-stay _ es h e (λ j. ap (knob_of j) is);
             pistons = more_table pistons scope_of es e (scope_at c.args.self.now.pistons) _ c.in-Piston.piston (record { lowest = c.in-Piston.lowest; highest = c.in-Piston.highest }) _ c.give-in-Piston.ensures done (λ j. ap (scope_of j) is) h.pistons;
             wires = wires-stay _ es h e (ap (λ f. wire_of (record { line = c.args.line; form = f })) is);
@@ -85,7 +85,7 @@ returns-else-len-ge-MOST_WIRES c =
           let e : Entry = record { line = c.args.line; form = c.args.form } in
           record {
             divisions = divisions_stay _ es h e (λ j. ap (keys_of j) is);
-            ranks = ranks-stay _ es h e (λ j. ap (pipes_of j) is);
+            ranks = ranks_stay _ es h e (λ j. ap (pipes_of j) is);
             knobs = knobs-stay _ es h e (λ j. ap (knob_of j) is);
             pistons = pistons-stay _ es h e (λ j. ap (scope_of j) is);
             wires = wires-grow _ es h e _ _ c.push_reserved.ensures.items (ap (λ f. wire_of (record { line = c.args.line; form = f })) is);

@@ -9,8 +9,8 @@ use Rattle.console.proofs.console.Console.new.Goals as goal
 pub returns : goal.returns
 returns g c =
     let knobs = c.args.knobs in
-    makes g.met.C.Chest.quiet c.args.chest c.strobe.new.self knobs c.args.pistons c.released.result c.new.result (g.met.C.Chest.bounded c.args.chest) (λ settled.
+    makes g.met.C.Chest.quiet c.args.chest c.strobe.new.self knobs c.args.pistons c.released.result c.new-keys.result (g.met.C.Chest.bounded c.args.chest) (λ settled.
     let rows = c.clear_rows.ensures settled in
     let homes = c.reset_knobs.ensures rows.0 in
     let strobed = c.strobe.ensures.after homes.0 in
-    (strobed.0, strobed.1 ∙ ap strobe_after (homes.1 ∙ ap (λ x. knobs_turned x (λ k. true) (home_of knobs.homes) 64) rows.1))) c.released.ensures.scope c.released.ensures.frame c.new.ensures
+    (strobed.0, strobed.1 ∙ ap strobe_after (homes.1 ∙ ap (λ x. knobs_turned x (λ k. true) (home_of knobs.homes) 64) rows.1))) c.released.ensures.scope c.released.ensures.frame c.new-keys.ensures

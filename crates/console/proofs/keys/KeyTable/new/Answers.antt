@@ -1,5 +1,5 @@
-use Rattle.console.proofs.Blank.{keys-blank}
+use Rattle.console.proofs.Blank.{keys_blank}
 use Rattle.console.proofs.keys.KeyTable.new.Goals as goal
 
 pub returns : goal.returns
-returns c = keys-blank
+returns c = keys_blank
