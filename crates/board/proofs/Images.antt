@@ -8,6 +8,7 @@ use Rattle.chest.specs.Meaning.{Panel}
 use Rattle.chest.proofs.Totals.{total-zero}
 use Rattle.board.specs.declared.wire.Lead.{Lead}
 use Rattle.board.specs.Wires.{Reaches, live, way, some, some_wire, image, span, through, ways_to}
+use Rattle.board.specs.Quiet.{image_of_free}
 use Rattle.board.proofs.Sums.{some-total}
 
 either-above : (x y : Bool) (m n : ℕ) → x ≡ nat_lt 0 m → y ≡ nat_lt 0 n → (x || y) ≡ nat_lt 0 (m + n)
@@ -47,4 +48,4 @@ ways_free reach (w ∷ ws) panel s b q free =
 
 -- the image of no keys is empty
 pub image-free : (reach : Reaches) (ws : List Lead) (panel : Panel) (s : Places) → ((r p : ℕ) → s r p ≡ false) → image reach ws panel s ≡ none
-image-free reach ws panel s free = λ i b q. (image-ways reach ws panel s b q ∙ ap (ltb 0) (ways_free reach ws panel s b q free)) i
+image-free reach ws panel s free = λ i b q. image_of_free reach ws panel s free b q i
