@@ -1,0 +1,29 @@
+// What an organ is fitted with, as a book describes it and the relay takes it: knobs, pistons' scopes and wires.
+#![tactic(auto)]
+
+// The steps of a knob, and the position it goes home to.
+#[derive(Clone, Copy, Debug, PartialEq)]
+pub struct Knob {
+    pub steps: u8,
+    pub home: u8,
+}
+
+// The knobs that a piston takes, from the lowest to the highest.
+#[derive(Clone, Copy, Debug, PartialEq)]
+pub struct Scope {
+    pub lowest: u8,
+    pub highest: u8,
+}
+
+// A wire as it is offered to a board: as wide as a book can write it. Which of its numbers a board takes is the
+// board's to say.
+#[derive(Clone, Copy, Debug, PartialEq)]
+pub struct Wire {
+    pub from: u16,
+    pub lowest: u16,
+    pub highest: u16,
+    pub to: u16,
+    pub shift: i16,
+    pub knob: u16,
+    pub position: u16,
+}
