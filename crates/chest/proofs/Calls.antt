@@ -11,6 +11,10 @@ reach_is m row n r h is value = value ∙ ap (λ a. result_unwrap_or a 0) (is �
   answered : reach_answer m row ≡ Ok (m.reach row)
   answered = grind (arith, nat_tests)
 
+-- a row whose reach is answered above a place is one of the 16
+pub row_of_place : (m : Meaning) (row n place : ℕ) (r : Result ℕ ChestFault) → r ≡ reach_answer m row → n ≡ result_unwrap_or r 0 → place < n → row < 16
+row_of_place m row n place r is value h = grind (arith, nat_tests, value ∙ ap (λ a. result_unwrap_or a 0) is)
+
 pub position_is : (m : Meaning) (knob n : ℕ) (r : Result ℕ ChestFault) → knob < 64 → r ≡ position_answer m knob → n ≡ result_unwrap_or r 0 → n ≡ m.panel knob
 position_is m knob n r h is value = value ∙ ap (λ a. result_unwrap_or a 0) (is ∙ answered) where
   answered : position_answer m knob ≡ Ok (m.panel knob)

@@ -1,3 +1,5 @@
 pub mod Totals
 pub mod Counts
 pub mod Calls
+pub mod Walking
+pub mod Arrays

@@ -1,3 +1,4 @@
 pub mod Faults
 pub mod Places
 pub mod Meaning
+pub mod Walks

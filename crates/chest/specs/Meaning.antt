@@ -29,6 +29,10 @@ pub record Bounded (m : Meaning) : Type 0 where
   pub pipes : (r p : ℕ) → m.speaking r p ≡ true → (r < 16) × (p < 128)
   pub strobes : m.strobes < 2 ^ 32
 
+-- a chest that is settled stays so, and means this then
+abbrev pub Becomes : {C : Type 0} → (C → Meaning) → (C → Type 0) → C → C → Meaning → Type 0
+Becomes meaning settled before after m = settled before → settled after × (meaning after ≡ m)
+
 abbrev pub with_register : Meaning → Places → Meaning
 with_register m s =
     record { reach = m.reach; register = s; panel = m.panel; speaking = m.speaking; strobes = m.strobes; rule = m.rule }

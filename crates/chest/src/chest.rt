@@ -1,7 +1,7 @@
 // The trait of a chest: what it means, the laws that it keeps, and its five calls.
 ghost use Rattle.std.specs.Prelude.{◌≡◌, ℕ, Bool, OnErr};
 ghost use Rattle.chest.specs.Places.{none, changed};
-ghost use Rattle.chest.specs.Meaning.{Meaning, Panel, Bounded, reach_answer, position_answer, set_answer, set_after, turn_answer, turn_after, strobe_after};
+ghost use Rattle.chest.specs.Meaning.{Meaning, Panel, Bounded, Becomes, reach_answer, position_answer, set_answer, set_after, turn_answer, turn_after, strobe_after};
 
 use crate::fault::ChestFault;
 
@@ -32,18 +32,18 @@ pub trait Chest {
     fn set(&mut self, row: usize, place: usize, on: bool) -> Result<(), ChestFault>
         ensures answer { result ≡ set_answer (meaning self.old) row place }
         ensures same { OnErr result (self.new ≡ self.old) }
-        ensures after { settled self.old → settled self.new × (meaning self.new ≡ set_after (meaning self.old) row place on) };
+        ensures after { Becomes meaning settled self.old self.new (set_after (meaning self.old) row place on) };
 
     // Turns one knob of the panel to a position.
     fn turn(&mut self, knob: usize, position: usize) -> Result<(), ChestFault>
         ensures answer { result ≡ turn_answer knob position }
         ensures same { OnErr result (self.new ≡ self.old) }
-        ensures after { settled self.old → settled self.new × (meaning self.new ≡ turn_after (meaning self.old) knob position) };
+        ensures after { Becomes meaning settled self.old self.new (turn_after (meaning self.old) knob position) };
 
     // Lets the pipes of the rule speak, and answers how many pipes changed.
     fn strobe(&mut self) -> u32
         ensures answer { result ≡ changed (meaning self.old).speaking (meaning self.new).speaking }
-        ensures after { settled self.old → settled self.new × (meaning self.new ≡ strobe_after (meaning self.old)) };
+        ensures after { Becomes meaning settled self.old self.new (strobe_after (meaning self.old)) };
 
     // An empty register lets no pipe speak, under any panel.
     ghost quiet: { (c : Self) (panel : Panel) → (meaning c).rule panel none ≡ none };

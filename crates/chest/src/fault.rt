@@ -2,7 +2,7 @@
 ghost use Rattle.std.specs.Prelude.{◌≡◌};
 ghost use Rattle.chest.specs.Faults.{number_of};
 
-#[derive(Clone, Copy)]
+#[derive(Clone, Copy, Debug, PartialEq)]
 pub enum ChestFault {
     // The row is 16 or more.
     Row { row: usize },
@@ -19,13 +19,10 @@ impl ChestFault {
         ensures { result ≡ number_of self }
     {
         match self {
-            ChestFault::Row { row: _ } => 11,
-            ChestFault::Place { row: _, place: _ } => 12,
-            ChestFault::Knob { knob: _ } => 13,
-            ChestFault::Position {
-                knob: _,
-                position: _,
-            } => 14,
+            ChestFault::Row { .. } => 11,
+            ChestFault::Place { .. } => 12,
+            ChestFault::Knob { .. } => 13,
+            ChestFault::Position { .. } => 14,
         }
     }
 }

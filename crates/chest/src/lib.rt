@@ -4,4 +4,6 @@
 pub mod chest;
 pub mod fault;
 pub mod laws;
+pub mod place;
 pub mod sender;
+pub mod walks;
