@@ -1,8 +1,8 @@
 -- A board over a chest: after a key is put, or a knob turned, and handed down, it is settled again. Assumes nothing.
 use Rattle.std.specs.Prelude.{◌≡◌, ℕ, ◌+◌, ◌<◌, Bool, true, false, cond, ◌&&◌, ltb, ◌≢◌, List, [], ◌∷◌, is_some, Some, None, Option, nat_lt, refl}
-use Rattle.std.proofs.Common.{sym, ap, subst, ◌∙◌, arith}
+use Rattle.std.proofs.Common.{get_or, sym, ap, subst, ◌∙◌, arith}
 use Rattle.std.proofs.lemmas.List.Sums.{sum_by-cons}
-use Rattle.std.proofs.lemmas.Bool.{or_parts, false≢true}
+use Rattle.std.proofs.lemmas.Bool.{or_parts}
 use Rattle.std.proofs.lemmas.Bool.Decides.{nat_tests}
 use Rattle.chest.specs.Places.{Places, none, put}
 use Rattle.chest.specs.Meaning.{Meaning, Panel, Bounded, with_register, with_panel, knob_to}
@@ -11,7 +11,7 @@ use Rattle.board.specs.Wires.{Reaches, reach_of, way, some, some_wire, image, sp
 use Rattle.board.specs.Harness.{outlet, meets, swing}
 use Rattle.board.specs.Layout.{Layout, with_key, with_knob, image_of}
 use Rattle.board.specs.Board.{board_meaning, Stands}
-use Rattle.board.specs.Making.{rows_cleared, panel_of, bare, new_meaning}
+use Rattle.board.specs.Making.{panel_of, bare, new_meaning}
 use Rattle.board.specs.Handing.{from_key, from_knob, mixed}
 use Rattle.board.proofs.Sums.{some-total}
 use Rattle.board.proofs.Ways.{Swung, through-put, through-swing}
@@ -42,7 +42,7 @@ unfolding some_wire
 knob_untouched reach [] panel s knob from to b q few was turns free = refl
 knob_untouched reach (w ∷ ws) panel s knob from to b q few was turns free =
     let parts = or_parts (is_some (swing w knob from to) && some (w.highest + 1) (way reach s w b q)) _ free in
-    let front = by (swing w knob from to) (some (w.highest + 1) (way reach s w b q)) _ _ (span reach s b q w) parts.0 (span_none reach s b q w) (through-swing reach panel s knob from to b q w few was turns (swing w knob from to) refl) in
+    let front = by (swing w knob from to) (some (w.highest + 1) (way reach s w b q)) _ _ (span reach s b q w) parts.0 (span_none reach s b q w) (through-swing reach panel s knob from to b q w was turns (swing w knob from to) refl) in
     let rest = knob_untouched reach ws panel s knob from to b q few was turns parts.1 in
     omega (arith, sum_by-cons (through reach (knob_to panel knob to) s b q) w ws, sum_by-cons (through reach panel s b q) w ws)
   where
@@ -111,22 +111,24 @@ module _ (l : Layout) (m : Meaning) (st : Stands l m) where
         below =
             is ∙ ap (λ x. with_register m (mixed (from_knob x knob from to) (image_of x) m.register)) lay ∙ ap (with_register m) knob_image
 
--- every place that can be set below is cleared
-pub cleared : (m : Meaning) → Bounded m → (rows_cleared m 16).register ≡ none
-cleared m b = λ i r p. one r p i where
-  one : (r p : ℕ) → (rows_cleared m 16).register r p ≡ false
-  one r p = by (nat_lt r 16 && nat_lt p (m.reach r)) (m.register r p) (λ e. grind_in r p e) where
-    by : (x y : Bool) → (y ≡ true → x ≡ true) → cond x false y ≡ false
-    by true y h = refl
-    by false true h = absurd (false≢true (h refl))
-    by false false h = refl
+-- the reaches and positions below, as tables, and the board made of them
+pub reaches_held : (m : Meaning) (table : List ℕ) → Bounded m → ((r : ℕ) → r < 16 → get_or table r 0 ≡ m.reach r) → reach_of table ≡ m.reach
+reaches_held m table b is = λ i r. one r i where
+  one : (r : ℕ) → reach_of table r ≡ m.reach r
+  one r =
+      let there = is r in
+      let low = b.reaches r in
+      let past = b.rows r in
+      grind (arith, nat_tests)
 
-    grind_in : (r p : ℕ) → m.register r p ≡ true → (nat_lt r 16 && nat_lt p (m.reach r)) ≡ true
-    grind_in r p e =
-        let low = b.register r p e in
-        let rows = b.rows r in
-        grind (arith, nat_tests)
+pub positions_held : (m : Meaning) (table : List ℕ) → Bounded m → ((k : ℕ) → k < 64 → get_or table k 0 ≡ m.panel k) → panel_of table ≡ m.panel
+positions_held m table b is = λ i k. one k i where
+  one : (k : ℕ) → panel_of table k ≡ m.panel k
+  one k =
+      let there = is k in
+      let past = b.knobs k in
+      grind (arith, nat_tests)
 
-pub new-board : (l : Layout) (m m' : Meaning) (reaches below positions : List ℕ) → l ≡ bare reaches below positions → reach_of below ≡ m'.reach → panel_of positions ≡ m'.panel → Bounded m → m' ≡ rows_cleared m 16 → Stands l m' × (board_meaning l m' ≡ new_meaning reaches m)
-new-board l m m' reaches below positions lay reach panel b is =
-    subst (λ x. Stands x m' × (board_meaning x m' ≡ new_meaning reaches m)) (sym lay) (record { reach = sym reach; panel = sym panel; register = ap (λ y. y.register) is ∙ cleared m b ∙ sym (image-free m'.reach [] m'.panel none (λ r p. refl)) }, ap (board_meaning (bare reaches below positions)) is)
+pub new-board : (l : Layout) (m m' : Meaning) (reaches below positions : List ℕ) → l ≡ bare reaches below positions → reach_of below ≡ m'.reach → panel_of positions ≡ m'.panel → m' ≡ with_register m none → Stands l m' × (board_meaning l m' ≡ new_meaning reaches m)
+new-board l m m' reaches below positions lay reach panel is =
+    subst (λ x. Stands x m' × (board_meaning x m' ≡ new_meaning reaches m)) (sym lay) (record { reach = sym reach; panel = sym panel; register = ap (λ y. y.register) is ∙ sym (image-free m'.reach [] m'.panel none (λ r p. refl)) }, ap (board_meaning (bare reaches below positions)) is)

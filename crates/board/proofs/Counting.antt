@@ -1,6 +1,6 @@
 -- The steps of the walks that count ways. Assumes nothing.
-use Rattle.std.proofs.Common.{◌≡◌, ℕ, ◌+◌, ◌<◌, ◌≤◌, Bool, true, false, cond, not, ◌&&◌, eqb, ◌≢◌, List, length, get_or, Some, None, Option, sym, refl, ap, ◌∙◌, arith}
-use Rattle.std.proofs.lemmas.List.{length-take, get_or-take, get_or_default}
+use Rattle.std.proofs.Common.{◌≡◌, ℕ, ◌+◌, ◌<◌, ◌≤◌, Bool, true, false, cond, not, ◌&&◌, eqb, ◌≢◌, List, length, get_or, Some, None, Option, sym, refl, ap, ◌∙◌, subst, arith}
+use Rattle.std.proofs.lemmas.List.{get_or_default}
 use Rattle.std.proofs.lemmas.Bool.{false≢true}
 use Rattle.std.proofs.lemmas.Bool.Decides.{nat_tests}
 use Rattle.chest.specs.Places.{total, put}
@@ -9,7 +9,7 @@ use Rattle.chest.proofs.Totals.{total-zero, total-more}
 use Rattle.board.specs.declared.wire.Lead.{Lead}
 use Rattle.board.specs.declared.harness.Harness.{Harness}
 use Rattle.board.specs.Wires.{landing, is_at, way, span, through}
-use Rattle.board.specs.Harness.{beneath, register, panel, wires, outlet, meets, swing, blank}
+use Rattle.board.specs.Harness.{beneath, register, panel, wires, outlet, meets, swing}
 use Rattle.board.specs.Counts.{at_place, Moves, Room}
 use Rattle.board.proofs.Sums.{total-part, total-past, walked, walked_more, walked-le}
 use Rattle.board.proofs.Ways.{Swung, outlet-below, through-one, through-put, through-swing, way-is, way-low, way-high}
@@ -41,16 +41,21 @@ by_limit : (up : Bool) (m n by : ℕ) → m + cond up 0 by ≡ n + cond up by 0 
 by_limit true m n by moved few many = (omega arith, omega arith)
 by_limit false m n by moved few many = (omega arith, omega arith)
 
+-- a lead that leads nowhere
+abbrev pub blank : Lead
+blank = record { from = 0; lowest = 0; highest = 0; to = 0; raise = 0; setting = None }
+
 module _ (h : Harness) where
-  pub wires-len : length h.leads ≡ 128 → h.len ≤ 128 → length (wires h) ≡ h.len
-  wires-len table room = omega (arith, length-take h.len h.leads)
+  -- the wire that a walk over the leads is at
+  module _ (xs : List Lead) (same : xs ≡ wires h) (i : ℕ) (l : i < length xs) where
+    abbrev pub wire_at : Lead
+    wire_at = get_or xs i blank
 
-  pub wires-at : (i : ℕ) → i < h.len → get_or (wires h) i blank ≡ get_or h.leads i blank
-  wires-at i l = get_or-take h.len h.leads i blank l
+    pub wire_in : i < length (wires h)
+    wire_in = subst (λ ws. i < length ws) same l
 
-  pub wires-read : length h.leads ≡ 128 → h.len ≤ 128 → (i : ℕ) → i < h.len → get_or (wires h) i (get_or h.leads i blank) ≡ get_or h.leads i blank
-  wires-read table room i l =
-      get_or_default (wires h) i (get_or h.leads i blank) blank (omega (arith, wires-len table room)) ∙ wires-at i l
+    pub wire_is : get_or (wires h) i wire_at ≡ wire_at
+    wire_is = get_or_default (wires h) i wire_at blank wire_in ∙ ap (λ ws. get_or ws i blank) (sym same)
 
   -- a place of a row below that has places
   pub place_within : (b q : ℕ) → q < beneath h b → (b < 16) × (q < 128)
@@ -68,14 +73,13 @@ module _ (h : Harness) where
     abbrev key_old : Lead → ℕ
     key_old = through (beneath h) (panel h) (register h) b q
 
-    module _ (table : length h.leads ≡ 128) (room : h.len ≤ 128) (other : register h row key ≡ not on) (i n : ℕ) (l : i < h.len) (inv : n ≡ walked key_new key_old (wires h) i) (o : Option (ℕ × ℕ)) (is : outlet (beneath h) (panel h) (get_or h.leads i blank) row key ≡ o) where
+    module _ (room : length (wires h) ≤ 128) (other : register h row key ≡ not on) (i n : ℕ) (w : Lead) (l : i < length (wires h)) (at : get_or (wires h) i w ≡ w) (inv : n ≡ walked key_new key_old (wires h) i) (o : Option (ℕ × ℕ)) (is : outlet (beneath h) (panel h) w row key ≡ o) where
       -- the key's way through the wire comes, or goes
       step : walked key_new key_old (wires h) (i + 1) + cond on 0 (cond (meets o b q) 1 0) ≡ n + cond on (cond (meets o b q) 1 0) 0
       step =
-          let w = get_or h.leads i blank in
-          let more = walked_more key_new key_old (wires h) i blank (omega (arith, wires-len table room)) in
-          let New-is = ap key_new (wires-at i l) in
-          let old-is = ap key_old (wires-at i l) in
+          let more = walked_more key_new key_old (wires h) i w l in
+          let new_is = ap key_new at in
+          let old_is = ap key_old at in
           let one = through-put (beneath h) (panel h) (register h) row key on b q w in
           let hit = ap (λ x. meets x b q) is in
           by_hit (meets (outlet (beneath h) (panel h) w row key) b q) (meets o b q) (register h row key) on (key_new w) (key_old w) n _ other hit one (omega arith)
@@ -84,7 +88,7 @@ module _ (h : Harness) where
       pub key_room : meets o b q ≡ true → (n + cond on 1 0 < 256) × (cond on 0 1 ≤ n)
       key_room hit =
           let most = walked-le key_new key_old (wires h) (through-one (beneath h) (panel h) (put (register h) row key on) b q) (through-one (beneath h) (panel h) (register h) b q) (i + 1) in
-          by_room on (meets o b q) n _ hit step (omega (arith, most, wires-len table room))
+          by_room on (meets o b q) n _ hit step (omega (arith, most))
 
       -- a wire more is walked
       pub key_more : (m : ℕ) → m + cond on 0 (cond (meets o b q) 1 0) ≡ n + cond on (cond (meets o b q) 1 0) 0 → m ≡ walked key_new key_old (wires h) (i + 1)
@@ -95,12 +99,12 @@ module _ (h : Harness) where
     abbrev pub term : ℕ → ℕ → ℕ → ℕ
     term b q key = cond (way (beneath h) (register h) w b q key) 1 0
 
-    pub wire_none : (table : List ℕ) → Moves up table table (λ b q. total w.lowest (term b q))
-    wire_none table b q hb hq =
-        ap (λ n. at_place table b q + cond up 0 n) none ∙ sym (ap (λ n. at_place table b q + cond up n 0) none ∙ both)
+    pub wire_none : (table : List ℕ) (n : ℕ) → n ≤ w.lowest → Moves up table table (λ b q. total n (term b q))
+    wire_none table n below b q hb hq =
+        ap (λ m. at_place table b q + cond up 0 m) none ∙ sym (ap (λ m. at_place table b q + cond up m 0) none ∙ both)
       where
-        none : total w.lowest (term b q) ≡ 0
-        none = total-zero w.lowest (term b q) (λ k l. ap (λ x. cond x 1 0) (way-low (beneath h) (register h) w k b q l))
+        none : total n (term b q) ≡ 0
+        none = total-zero n (term b q) (λ k l. ap (λ x. cond x 1 0) (way-low (beneath h) (register h) w k b q (omega arith)))
 
         both : at_place table b q + cond up 0 0 ≡ at_place table b q + cond up 0 0
         both = refl
@@ -147,25 +151,23 @@ module _ (h : Harness) where
     abbrev knob_old : Lead → ℕ
     knob_old = through (beneath h) (panel h) (register h) b q
 
-    module _ (table : length h.leads ≡ 128) (room : h.len ≤ 128) (few : knob < 64) (was : panel h knob ≡ from) (turns : from ≢ to) (i n : ℕ) (l : i < h.len) (inv : n ≡ walked knob_new knob_old (wires h) i) where
+    module _ (room : length (wires h) ≤ 128) (was : panel h knob ≡ from) (turns : from ≢ to) (i n : ℕ) (w : Lead) (l : i < length (wires h)) (at : get_or (wires h) i w ≡ w) (inv : n ≡ walked knob_new knob_old (wires h) i) where
       -- the ways of the wire come, or go, or stay
-      swing-step : (o : Option Bool) → swing (get_or h.leads i blank) knob from to ≡ o → Swung o (walked knob_new knob_old (wires h) (i + 1)) n (span (beneath h) (register h) b q (get_or h.leads i blank))
+      swing-step : (o : Option Bool) → swing w knob from to ≡ o → Swung o (walked knob_new knob_old (wires h) (i + 1)) n (span (beneath h) (register h) b q w)
       swing-step o is =
-          let w = get_or h.leads i blank in
-          let more = walked_more knob_new knob_old (wires h) i blank (omega (arith, wires-len table room)) in
-          let New-is = ap knob_new (wires-at i l) in
-          let old-is = ap knob_old (wires-at i l) in
-          by_swing o (knob_new w) (knob_old w) _ _ _ (through-swing (beneath h) (panel h) (register h) knob from to b q w few was turns o is) (omega arith)
+          let more = walked_more knob_new knob_old (wires h) i w l in
+          let new_is = ap knob_new at in
+          let old_is = ap knob_old at in
+          by_swing o (knob_new w) (knob_old w) _ _ _ (through-swing (beneath h) (panel h) (register h) knob from to b q w was turns o is) (omega arith)
 
-      pub knob_stays : swing (get_or h.leads i blank) knob from to ≡ None → n ≡ walked knob_new knob_old (wires h) (i + 1)
+      pub knob_stays : swing w knob from to ≡ None → n ≡ walked knob_new knob_old (wires h) (i + 1)
       knob_stays is = sym (swing-step None is)
 
-      module _ (up : Bool) (is : swing (get_or h.leads i blank) knob from to ≡ Some up) where
-        pub knob_room : (n + cond up (span (beneath h) (register h) b q (get_or h.leads i blank)) 0 < 256) × (cond up 0 (span (beneath h) (register h) b q (get_or h.leads i blank)) ≤ n)
+      module _ (up : Bool) (is : swing w knob from to ≡ Some up) where
+        pub knob_room : (n + cond up (span (beneath h) (register h) b q w) 0 < 256) × (cond up 0 (span (beneath h) (register h) b q w) ≤ n)
         knob_room =
-            let long = wires-len table room in
             let most : (j : ℕ) → walked knob_new knob_old (wires h) j ≤ length (wires h) = walked-le knob_new knob_old (wires h) (through-one (beneath h) (knob_to (panel h) knob to) (register h) b q) (through-one (beneath h) (panel h) (register h) b q) in
             by_limit up _ _ _ (swing-step (Some up) is) (omega (arith, most i)) (omega (arith, most (i + 1)))
 
-        pub knob_more : (m : ℕ) → m + cond up 0 (span (beneath h) (register h) b q (get_or h.leads i blank)) ≡ n + cond up (span (beneath h) (register h) b q (get_or h.leads i blank)) 0 → m ≡ walked knob_new knob_old (wires h) (i + 1)
-        knob_more m moved = let step : Swung (Some up) (walked knob_new knob_old (wires h) (i + 1)) n (span (beneath h) (register h) b q (get_or h.leads i blank)) = swing-step (Some up) is in omega arith
+        pub knob_more : (m : ℕ) → m + cond up 0 (span (beneath h) (register h) b q w) ≡ n + cond up (span (beneath h) (register h) b q w) 0 → m ≡ walked knob_new knob_old (wires h) (i + 1)
+        knob_more m moved = let step : Swung (Some up) (walked knob_new knob_old (wires h) (i + 1)) n (span (beneath h) (register h) b q w) = swing-step (Some up) is in omega arith

@@ -1,13 +1,14 @@
 -- The laws of the image. Assumes nothing.
-use Rattle.std.proofs.Common.{◌≡◌, ℕ, zero, suc, ◌+◌, ◌<◌, Bool, true, false, ◌&&◌, ◌||◌, eqb, ltb, leb, ◌⊎◌, List, [], ◌∷◌, ◌++◌, length, ℤ, pos, negsuc, ◌+ℤ◌, ◌-ℤ◌, Decides, sym, refl, ap, ◌∙◌, inl, inr, ⊎_elim, arith}
+use Rattle.std.proofs.Common.{◌≡◌, ℕ, zero, suc, ◌+◌, ◌<◌, Bool, true, false, ◌&&◌, ◌||◌, eqb, ltb, leb, List, [], ◌∷◌, ◌++◌, length, ℤ, pos, negsuc, ◌+ℤ◌, ◌-ℤ◌, Decides, IfSome, Some, None, Option, sym, refl, ap, ◌∙◌, ⊎_elim, arith}
 use Rattle.std.specs.List.{HoldsAt}
 use Rattle.std.proofs.lemmas.Int.{ints}
-use Rattle.std.proofs.lemmas.Bool.{and_parts, and_from, or_cases, or_left, or_right, leb-true, le-leb, eqb-true, eq-eqb, ltb-true, lt-ltb}
+use Rattle.std.proofs.lemmas.Bool.{and_parts, and_from, or_cases, leb-true, le-leb, eqb-true, eq-eqb, ltb-true, lt-ltb}
 use Rattle.std.proofs.lemmas.Bool.Decides.{nat_tests, Decides-by_or}
 use Rattle.chest.specs.Places.{Places, none}
 use Rattle.chest.specs.Meaning.{Panel}
 use Rattle.board.specs.declared.wire.Lead.{Lead}
-use Rattle.board.specs.Wires.{Reaches, live, landing, is_at, leads, way, some, some_wire, image, through}
+use Rattle.board.specs.declared.wire.Setting.{Setting}
+use Rattle.board.specs.Wires.{Reaches, live, stands, landing, is_at, leads, way, some, some_wire, image, through}
 use Rattle.board.specs.Fitting.{in_range, raised}
 use Rattle.board.specs.Laws.{Reached, either, ImageLaw}
 use Rattle.board.proofs.Sums.{some-found, sum-le}
@@ -28,13 +29,13 @@ shift_back : (raise key q : ℕ) → pos q ≡ pos key +ℤ (pos raise -ℤ pos 
 shift_back raise key q e = omega (arith, ints)
 
 module _ (reach : Reaches) (panel : Panel) (s : Places) (b q : ℕ) (w : Lead) where
-  live-tells : live panel w ≡ true → (w.knob ≡ 64) ⊎ (panel w.knob ≡ w.position)
-  live-tells e =
-      ⊎_elim (λ h. inl (eqb-true w.knob 64 h)) (λ h. inr (eqb-true (panel w.knob) w.position h)) (or_cases (eqb w.knob 64) (eqb (panel w.knob) w.position) e)
+  live-tells : (c : Option Setting) → stands panel c ≡ true → IfSome c (λ t. panel t.knob ≡ t.position)
+  live-tells None e = tt
+  live-tells (Some t) e = eqb-true (panel t.knob) t.position e
 
-  live-from : (w.knob ≡ 64) ⊎ (panel w.knob ≡ w.position) → live panel w ≡ true
-  live-from e =
-      ⊎_elim (λ h. or_left (eqb w.knob 64) _ (eq-eqb w.knob 64 h)) (λ h. or_right _ (eqb (panel w.knob) w.position) (eq-eqb (panel w.knob) w.position h)) e
+  live-from : (c : Option Setting) → IfSome c (λ t. panel t.knob ≡ t.position) → stands panel c ≡ true
+  live-from None e = refl
+  live-from (Some t) e = eq-eqb (panel t.knob) t.position e
 
   -- one wire leads there exactly if it has a way there
   reached : (live panel w && some (w.highest + 1) (way reach s w b q)) ≡ true → Reached reach panel s b q w
@@ -50,7 +51,7 @@ module _ (reach : Reaches) (panel : Panel) (s : Places) (b q : ℕ) (w : Lead) w
       let row = eqb-true b w.to there.0 in
       record {
         key = key;
-        live = live-tells parts.0;
+        live = live-tells w.setting parts.0;
         row = sym row;
         held = held.0;
         low = leb-true w.lowest key range.0;
@@ -64,7 +65,7 @@ module _ (reach : Reaches) (panel : Panel) (s : Places) (b q : ℕ) (w : Lead) w
       let key = p.key in
       let lands : is_at (landing w.raise (reach w.to) key) q ≡ true = landing_is w.raise (reach w.to) key q ∙ and_from _ _ (eq-eqb (key + w.raise) (q + 96) (shift_back w.raise key q p.shifted)) (lt-ltb q (reach w.to) (omega (arith, p.below, ap reach p.row))) in
       let led : leads reach w b q key ≡ true = and_from _ _ (and_from _ _ (le-leb w.lowest key p.low) (le-leb key w.highest p.high)) (and_from _ _ (eq-eqb b w.to (sym p.row)) lands) in
-      and_from (live panel w) _ (live-from p.live) (some-found (w.highest + 1) key (way reach s w b q) (omega (arith, p.high)) (and_from (s w.from key) _ p.held led))
+      and_from (live panel w) _ (live-from w.setting p.live) (some-found (w.highest + 1) key (way reach s w b q) (omega (arith, p.high)) (and_from (s w.from key) _ p.held led))
 
 pub image-exact : (reach : Reaches) (ws : List Lead) (panel : Panel) (s : Places) (b q : ℕ) → Decides (image reach ws panel s b q) ((i : ℕ) × (i < length ws) × HoldsAt (Reached reach panel s b q) ws i)
 unfolding image some_wire

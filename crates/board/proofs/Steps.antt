@@ -1,17 +1,16 @@
 -- One turn of each walk that hands down: a place is put, or nothing. Assumes nothing.
 use Rattle.std.proofs.Common.{◌≡◌, ℕ, ◌+◌, ◌<◌, ◌≤◌, Bool, true, false, cond, ◌&&◌, ◌||◌, eqb, ltb, length, get_or, take, is_some, Some, None, Option, sym, refl, ap, ◌∙◌, subst, arith}
-use Rattle.std.proofs.lemmas.List.{take_all}
 use Rattle.chest.specs.Meaning.{Meaning, set_after}
 use Rattle.chest.specs.Places.{Places}
 use Rattle.board.specs.declared.wire.Lead.{Lead}
 use Rattle.board.specs.declared.wiring.Wiring.{Wiring}
 use Rattle.board.specs.Wires.{landing, way, some, some_wire}
-use Rattle.board.specs.Harness.{outlet, meets, swing, blank}
+use Rattle.board.specs.Harness.{outlet, meets, swing}
 use Rattle.board.specs.Layout.{layout, image_of, ways_of}
 use Rattle.board.specs.Handing.{from_wire, Handed}
 use Rattle.board.proofs.Sums.{some_more}
 use Rattle.board.proofs.Ways.{outlet-below, way-is, lands-below}
-use Rattle.board.proofs.Counting.{wires-len, wires-read, outlet-within, place_within}
+use Rattle.board.proofs.Counting.{outlet-within, place_within}
 use Rattle.board.proofs.Images.{image-ways}
 use Rattle.board.proofs.Walks.{or_false, handed-put, handed-then, handed-as, handed-more, handed-skip}
 
@@ -25,19 +24,6 @@ lands r w key =
     cond ((layout r).register w.from key) (landing w.raise ((layout r).below w.to) key) None
 
 module _ (r : Wiring) where
-  -- the wire that a turn is at
-  abbrev pub wire_at : ℕ → Lead
-  wire_at i = get_or r.harness.leads i blank
-
-  wire_in : (i : ℕ) → i < r.harness.len → i < length (layout r).wires
-  wire_in i h = omega (arith, wires-len r.harness r.slots r.room)
-
-  wire_is : (i : ℕ) → i < r.harness.len → get_or (layout r).wires i (wire_at i) ≡ wire_at i
-  wire_is = wires-read r.harness r.slots r.room
-
-  pub all_wires : (i : ℕ) → r.harness.len ≤ i → take i (layout r).wires ≡ (layout r).wires
-  all_wires i h = take_all i (layout r).wires (omega (arith, wires-len r.harness r.slots r.room))
-
   -- a place to which a way leads is in the image
   stands_is : (on : Bool) (b q : ℕ) → on ≡ ltb 0 (ways_of (layout r) b q) → on ≡ image_of (layout r) b q
   stands_is on b q is =
@@ -51,17 +37,17 @@ module _ (r : Wiring) where
     abbrev pub by_key : ℕ → Places
     by_key i b q = some_wire (key_leads b q) (take i (layout r).wires)
 
-    module _ {C : Type 0} {meaning : C → Meaning} {settled : C → Type 0} (i : ℕ) (h : i < r.harness.len) {c d : C} (inv : Handed meaning settled (layout r) (by_key i) c d) where
-      pub key_none : (x : C) → x ≡ d → outlet (layout r).below (layout r).panel (wire_at i) row key ≡ None → Handed meaning settled (layout r) (by_key (i + 1)) c x
+    module _ {C : Type 0} {meaning : C → Meaning} {settled : C → Type 0} (i : ℕ) (w : Lead) (h : i < length (layout r).wires) (at : get_or (layout r).wires i w ≡ w) {c d : C} (inv : Handed meaning settled (layout r) (by_key i) c d) where
+      pub key_none : (x : C) → x ≡ d → outlet (layout r).below (layout r).panel w row key ≡ None → Handed meaning settled (layout r) (by_key (i + 1)) c x
       key_none x same is =
-          subst (Handed meaning settled (layout r) (by_key (i + 1)) c) (sym same) (handed-skip key_leads (layout r).wires i (wire_at i) (wire_in i h) (wire_is i h) (λ b q. ap (λ o. meets o b q) is) inv)
+          subst (Handed meaning settled (layout r) (by_key (i + 1)) c) (sym same) (handed-skip key_leads (layout r).wires i w h at (λ b q. ap (λ o. meets o b q) is) inv)
 
-      pub key_put : (x e : C) → x ≡ e → (to place : ℕ) (on : Bool) → outlet (layout r).below (layout r).panel (wire_at i) row key ≡ Some (to, place) → on ≡ ltb 0 (ways_of (layout r) to place) → (settled d → settled e × (meaning e ≡ set_after (meaning d) to place on)) → Handed meaning settled (layout r) (by_key (i + 1)) c x
+      pub key_put : (x e : C) → x ≡ e → (to place : ℕ) (on : Bool) → outlet (layout r).below (layout r).panel w row key ≡ Some (to, place) → on ≡ ltb 0 (ways_of (layout r) to place) → (settled d → settled e × (meaning e ≡ set_after (meaning d) to place on)) → Handed meaning settled (layout r) (by_key (i + 1)) c x
       key_put x e same to place on is stands set =
-          let within = outlet-within r.harness (wire_at i) row key (to, place) is in
-          let below = outlet-below (layout r).below (layout r).panel (wire_at i) row key (to, place) is in
+          let within = outlet-within r.harness w row key (to, place) is in
+          let below = outlet-below (layout r).below (layout r).panel w row key (to, place) is in
           let one = handed-put {e = e} to place on within.0 below (stands_is on to place stands) inv set in
-          subst (Handed meaning settled (layout r) (by_key (i + 1)) c) (sym same) (handed-more key_leads (layout r).wires i (wire_at i) (wire_in i h) (wire_is i h) (handed-as (λ b q. ap (λ o. by_key i b q || meets o b q) (sym is)) one))
+          subst (Handed meaning settled (layout r) (by_key (i + 1)) c) (sym same) (handed-more key_leads (layout r).wires i w h at (handed-as (λ b q. ap (λ o. by_key i b q || meets o b q) (sym is)) one))
 
   module _ (w : Lead) where
     abbrev ways_by : ℕ → ℕ → ℕ → Bool
@@ -91,11 +77,11 @@ module _ (r : Wiring) where
     abbrev pub by_knob : ℕ → Places
     by_knob i b q = some_wire (knob_leads b q) (take i (layout r).wires)
 
-    module _ {C : Type 0} {meaning : C → Meaning} {settled : C → Type 0} (i : ℕ) (h : i < r.harness.len) {c d : C} (inv : Handed meaning settled (layout r) (by_knob i) c d) where
-      pub knob_none : (x : C) → x ≡ d → is_some (swing (wire_at i) knob from to) ≡ false → Handed meaning settled (layout r) (by_knob (i + 1)) c x
+    module _ {C : Type 0} {meaning : C → Meaning} {settled : C → Type 0} (i : ℕ) (w : Lead) (h : i < length (layout r).wires) (at : get_or (layout r).wires i w ≡ w) {c d : C} (inv : Handed meaning settled (layout r) (by_knob i) c d) where
+      pub knob_none : (x : C) → x ≡ d → is_some (swing w knob from to) ≡ false → Handed meaning settled (layout r) (by_knob (i + 1)) c x
       knob_none x same is =
-          subst (Handed meaning settled (layout r) (by_knob (i + 1)) c) (sym same) (handed-skip knob_leads (layout r).wires i (wire_at i) (wire_in i h) (wire_is i h) (λ b q. ap (λ y. y && from_wire (layout r) (wire_at i) b q) is) inv)
+          subst (Handed meaning settled (layout r) (by_knob (i + 1)) c) (sym same) (handed-skip knob_leads (layout r).wires i w h at (λ b q. ap (λ y. y && from_wire (layout r) w b q) is) inv)
 
-      pub knob_put : (x e : C) → x ≡ e → is_some (swing (wire_at i) knob from to) ≡ true → Handed meaning settled (layout r) (from_wire (layout r) (wire_at i)) d e → Handed meaning settled (layout r) (by_knob (i + 1)) c x
+      pub knob_put : (x e : C) → x ≡ e → is_some (swing w knob from to) ≡ true → Handed meaning settled (layout r) (from_wire (layout r) w) d e → Handed meaning settled (layout r) (by_knob (i + 1)) c x
       knob_put x e same is wire =
-          subst (Handed meaning settled (layout r) (by_knob (i + 1)) c) (sym same) (handed-more knob_leads (layout r).wires i (wire_at i) (wire_in i h) (wire_is i h) (handed-as (λ b q. ap (λ y. by_knob i b q || (y && from_wire (layout r) (wire_at i) b q)) (sym is)) (handed-then inv wire)))
+          subst (Handed meaning settled (layout r) (by_knob (i + 1)) c) (sym same) (handed-more knob_leads (layout r).wires i w h at (handed-as (λ b q. ap (λ y. by_knob i b q || (y && from_wire (layout r) w b q)) (sym is)) (handed-then inv wire)))

@@ -1,5 +1,7 @@
 -- Sums and tests over the numbers below a bound and over the wires of a list. Assumes nothing.
-use Rattle.std.specs.Prelude.{◌≡◌, ℕ, zero, suc, ◌+◌, ◌-◌, ◌<◌, ◌≤◌, Bool, true, false, cond, ◌||◌, ltb, ◌≢◌, List, [], ◌∷◌, length, take, drop, sum_by, nat_lt, slice_index_or, refl}
+use Rattle.std.specs.Prelude.{◌≡◌, ℕ, zero, suc, ◌+◌, ◌-◌, ◌<◌, ◌≤◌, Bool, true, false, cond, ◌||◌, ltb, ◌≢◌, List, [], ◌∷◌, ◌++◌, length, take, drop, sum_by, nat_lt, slice_index_or, refl}
+use Rattle.std.specs.List.{list_any, range_with_len}
+use Rattle.std.proofs.lemmas.List.Folds.{list_any-append}
 use Rattle.std.proofs.Common.{sym, ap, ◌∙◌, ⊎_elim, add-one, arith}
 use Rattle.std.proofs.Math.Nat.{add-zero, zero-add}
 use Rattle.std.proofs.lemmas.List.Sums.{sum_by-cons, sum_by_more, sum_by-drop_more}
@@ -108,3 +110,27 @@ module _ {X : Type 0} (new old : X → ℕ) (xs : List X) where
   unfolding walked
   walked-le n o i =
       omega (arith, sum-le new n (take i xs), sum-le old o (drop i xs), length-take i xs, length-drop i xs)
+
+-- whether some number of a range passes
+range_more : (a n : ℕ) → range_with_len a (n + 1) ≡ range_with_len a n ++ (a + n) ∷ []
+range_more a zero = let same : a ≡ a + 0 = omega arith in ap (λ k. k ∷ []) same
+range_more a (suc n) =
+    let here : suc n + 1 ≡ suc (n + 1) = omega arith in
+    let next : (a + 1) + n ≡ a + suc n = omega arith in
+    ap (range_with_len a) here ∙ ap (λ xs. a ∷ xs) (range_more (a + 1) n ∙ ap (λ k. range_with_len (a + 1) n ++ k ∷ []) next)
+
+pub some_of_range : (n : ℕ) (f : ℕ → Bool) → list_any f (range_with_len 0 n) ≡ some n f
+unfolding some
+some_of_range zero f = refl
+some_of_range (suc n) f =
+    let more : suc n ≡ n + 1 = omega arith in
+    ap (λ m. list_any f (range_with_len 0 m)) more
+    ∙ ap (list_any f) (range_more 0 n)
+    ∙ list_any-append f (range_with_len 0 n) ((0 + n) ∷ [])
+    ∙ (λ i. some_of_range n f i || last i)
+  where
+    last : (f (0 + n) || false) ≡ f n
+    last = let same : 0 + n ≡ n = omega arith in by (f (0 + n)) ∙ ap f same where
+      by : (b : Bool) → (b || false) ≡ b
+      by true = refl
+      by false = refl

@@ -1,7 +1,6 @@
 -- What a write to a table of a board makes of what it holds. Assumes nothing.
-use Rattle.std.proofs.Common.{◌≡◌, ℕ, zero, suc, ◌+◌, ◌*◌, ◌<◌, Bool, true, false, cond, ◌&&◌, ltb, List, length, get_or, set, replicate, sym, refl, ap, ◌∙◌, ⊎_elim, arith}
+use Rattle.std.proofs.Common.{◌≡◌, ℕ, zero, suc, ◌+◌, ◌*◌, ◌<◌, Bool, true, false, cond, ◌&&◌, ltb, List, length, get_or, set, replicate, refl, ap, ◌∙◌, arith}
 use Rattle.std.proofs.lemmas.List.{get_or-set_same, get_or-set_other}
-use Rattle.std.proofs.lemmas.Bool.{cases_eq}
 use Rattle.std.proofs.lemmas.Bool.Decides.{nat_tests}
 use Rattle.chest.specs.Places.{Places, none, put}
 use Rattle.chest.specs.Meaning.{Panel, knob_to}
@@ -11,12 +10,12 @@ use Rattle.board.specs.Wires.{Reaches, reach_of}
 abbrev pub held : Reaches → List Bool → Places
 held reach keys r p = ltb p (reach r) && get_or keys (128 * r + p) false
 
-pub held-put : (reaches : List ℕ) (keys : List Bool) (row key : ℕ) (on : Bool) → length keys ≡ 2048 → key < reach_of reaches row → held (reach_of reaches) (set keys (128 * row + key) on) ≡ put (held (reach_of reaches) keys) row key on
-held-put reaches keys row key on long place = λ i r p. one r p i where
-  one : (r p : ℕ) → held (reach_of reaches) (set keys (128 * row + key) on) r p ≡ put (held (reach_of reaches) keys) row key on r p
+pub held-put : (reaches : List ℕ) (keys : List Bool) (row key at : ℕ) (on : Bool) → length keys ≡ 2048 → key < reach_of reaches row → at ≡ 128 * row + key → held (reach_of reaches) (set keys at on) ≡ put (held (reach_of reaches) keys) row key on
+held-put reaches keys row key at on long place is = λ i r p. one r p i where
+  one : (r p : ℕ) → held (reach_of reaches) (set keys at on) r p ≡ put (held (reach_of reaches) keys) row key on r p
   one r p =
-      let same = get_or-set_same keys (128 * row + key) on false in
-      let other = get_or-set_other keys (128 * row + key) (128 * r + p) on false in
+      let same = get_or-set_same keys at on false in
+      let other = get_or-set_other keys at (128 * r + p) on false in
       grind (arith, nat_tests)
 
 -- the positions that a table of knobs holds
@@ -30,14 +29,6 @@ standing-turned positions knob to long few = λ i k. one k i where
       let same = get_or-set_same positions knob to 0 in
       let other = get_or-set_other positions knob k to 0 in
       grind (arith, nat_tests)
-
--- a table that is filled from its start
-pub filled_more : (xs : List ℕ) (i v : ℕ) (f : ℕ → ℕ) → i < length xs → v ≡ f i → ((k : ℕ) → k < i → get_or xs k 0 ≡ f k) → (k : ℕ) → k < i + 1 → get_or (set xs i v) k 0 ≡ f k
-filled_more xs i v f l here before k h =
-    ⊎_elim
-    (λ (e : k ≡ i). ap (λ n. get_or (set xs i v) n 0) e ∙ get_or-set_same xs i v 0 l ∙ here ∙ sym (ap f e))
-    (λ ne. get_or-set_other xs i k v 0 ne ∙ before k (omega arith))
-    (cases_eq k i)
 
 -- a table of one value
 pub same_everywhere : {X : Type 0} (n i : ℕ) (x : X) → get_or (replicate n x) i x ≡ x

@@ -1,13 +1,10 @@
 -- The steps of the walks that hand down. Assumes nothing.
-use Rattle.std.proofs.Common.{◌≡◌, ℕ, ◌+◌, ◌<◌, Bool, true, false, cond, ◌&&◌, ◌||◌, eqb, ltb, List, [], ◌∷◌, ◌++◌, length, get_or, take, is_ok, Ok, Err, Result, sym, refl, ap, ◌∙◌, arith}
-use Rattle.std.specs.Result.{result_unwrap_or}
+use Rattle.std.proofs.Common.{◌≡◌, ℕ, ◌+◌, ◌<◌, Bool, true, false, cond, ◌&&◌, ◌||◌, eqb, List, [], ◌∷◌, ◌++◌, length, get_or, take, sym, refl, ap, ◌∙◌, arith}
 use Rattle.std.proofs.lemmas.List.{take_more}
-use Rattle.std.proofs.lemmas.Bool.{lt-ltb, ltb-true}
 use Rattle.std.proofs.lemmas.Bool.Decides.{nat_tests}
-use Rattle.chest.specs.declared.fault.ChestFault.{ChestFault}
-use Rattle.chest.specs.declared.fault.ChestFault.TheVariants.{Row, Place, Knob, Position}
 use Rattle.chest.specs.Places.{Places, put}
-use Rattle.chest.specs.Meaning.{Meaning, with_register, with_panel, knob_to, reach_answer, position_answer, set_answer, set_after, turn_answer, turn_after}
+use Rattle.chest.specs.Meaning.{Meaning, with_register, set_after}
+use Rattle.chest.proofs.Calls.{set-done}
 use Rattle.board.specs.declared.wire.Lead.{Lead}
 use Rattle.board.specs.Wires.{some_wire}
 use Rattle.board.specs.Layout.{Layout, image_of}
@@ -32,44 +29,6 @@ some_wire-more f ws i d h = ap (some_wire f) (take_more ws i d h) ∙ some_wire-
 pub some_wire-none : (f : Lead → Bool) → some_wire f [] ≡ false
 unfolding some_wire
 some_wire-none f = refl
-
--- a place that the chest has is put
-abbrev answer : ℕ → ℕ → Bool → Bool → Result Unit ChestFault
-answer row place x y = cond x (cond y (Ok tt) (Err (Place row place))) (Err (Row row))
-
-pub set-answers : (m : Meaning) (row place : ℕ) → row < 16 → place < m.reach row → Ok tt ≡ set_answer m row place
-set-answers m row place hr hp =
-    sym (ap (λ x. answer row place x (ltb place (m.reach row))) (lt-ltb row 16 hr) ∙ ap (answer row place true) (lt-ltb place (m.reach row) hp))
-
-pub set-done : (m : Meaning) (row place : ℕ) (on : Bool) → row < 16 → place < m.reach row → set_after m row place on ≡ with_register m (put m.register row place on)
-set-done m row place on hr hp =
-    ap (λ a. cond (is_ok a) (with_register m (put m.register row place on)) m) (sym (set-answers m row place hr hp))
-
--- what an answered reach tells
-pub reach_tells : (m : Meaning) (row n : ℕ) → Ok n ≡ reach_answer m row → (row < 16) × (n ≡ m.reach row)
-reach_tells m row n e = by (ltb row 16) refl e where
-  by : (b : Bool) → ltb row 16 ≡ b → Ok n ≡ cond b (Ok (m.reach row)) (Err (Row row)) → (row < 16) × (n ≡ m.reach row)
-  by true h f = (ltb-true row 16 h, cc)
-  by false h f = absurd (let z : ◌≡◌ {A = ℕ} 0 1 = cc in omega arith)
-
--- the reach of a row and the position of a knob that there are
-pub reach_value : (m : Meaning) (row n : ℕ) → row < 16 → n ≡ result_unwrap_or (reach_answer m row) 0 → n ≡ m.reach row
-reach_value m row n h e = e ∙ ap (λ x. result_unwrap_or {E = ChestFault} (cond x (Ok (m.reach row)) (Err (Row row))) 0) (lt-ltb row 16 h)
-
-pub position_value : (m : Meaning) (knob n : ℕ) → knob < 64 → n ≡ result_unwrap_or (position_answer m knob) 0 → n ≡ m.panel knob
-position_value m knob n h e = e ∙ ap (λ x. result_unwrap_or {E = ChestFault} (cond x (Ok (m.panel knob)) (Err (Knob knob))) 0) (lt-ltb knob 64 h)
-
--- a knob that there is, is turned
-abbrev turning : ℕ → ℕ → Bool → Bool → Result Unit ChestFault
-turning knob position x y = cond x (cond y (Ok tt) (Err (Position knob position))) (Err (Knob knob))
-
-pub turn_answers : (knob position : ℕ) → knob < 64 → position < 16 → Ok tt ≡ turn_answer knob position
-turn_answers knob position hk hp =
-    sym (ap (λ x. turning knob position x (ltb position 16)) (lt-ltb knob 64 hk) ∙ ap (turning knob position true) (lt-ltb position 16 hp))
-
-pub turn_done : (m : Meaning) (knob position : ℕ) → knob < 64 → position < 16 → turn_after m knob position ≡ with_panel m (knob_to m.panel knob position)
-turn_done m knob position hk hp =
-    ap (λ a. cond (is_ok a) (with_panel m (knob_to m.panel knob position)) m) (sym (turn_answers knob position hk hp))
 
 -- one more place visited
 mixed-put : (visited new old : Places) (row place b q : ℕ) → put (mixed visited new old) row place (new row place) b q ≡ cond (visited b q || (eqb b row && eqb q place)) (new b q) (old b q)

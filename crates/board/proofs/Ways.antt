@@ -7,8 +7,9 @@ use Rattle.std.proofs.lemmas.Bool.Decides.{nat_tests}
 use Rattle.chest.specs.Places.{Places, put}
 use Rattle.chest.specs.Meaning.{Panel, knob_to}
 use Rattle.board.specs.declared.wire.Lead.{Lead}
-use Rattle.board.specs.Wires.{Reaches, live, landing, is_at, leads, way, span, through}
-use Rattle.board.specs.Harness.{outlet, meets, swing}
+use Rattle.board.specs.declared.wire.Setting.{Setting}
+use Rattle.board.specs.Wires.{Reaches, live, stands, landing, is_at, leads, way, span, through}
+use Rattle.board.specs.Harness.{outlet, meets, swing, swing_of}
 use Rattle.board.proofs.Sums.{total-change, total-once}
 
 -- a key lands at place q if key + shift is q, and q below the reach
@@ -30,7 +31,7 @@ pub through-one : (reach : Reaches) (panel : Panel) (s : Places) (b q : ℕ) (w 
 through-one reach panel s b q w = let one = span-one reach s b q w in grind (arith, nat_tests)
 
 -- a place that a key lands at is below the reach
-landing-below : (raise reach key q : ℕ) → landing raise reach key ≡ Some q → q < reach
+pub landing-below : (raise reach key q : ℕ) → landing raise reach key ≡ Some q → q < reach
 landing-below raise reach key q e =
     let at = landing_is raise reach key q in
     let is : is_at (landing raise reach key) q ≡ nat_eq q q = ap (λ o. is_at o q) e in
@@ -69,12 +70,6 @@ through-put reach panel s row key on b q w =
     let at = outlet-is reach panel w row key b q in
     grind (arith, nat_tests)
 
--- a knob that turns gives or takes all the ways of a wire that starts or stops to be live
-pub through-turn : (reach : Reaches) (panel : Panel) (s : Places) (knob from to b q : ℕ) (w : Lead) → knob < 64 → panel knob ≡ from → from ≢ to → through reach (knob_to panel knob to) s b q w + cond (w.knob == knob && w.position == from) (span reach s b q w) 0 ≡ through reach panel s b q w + cond (w.knob == knob && w.position == to) (span reach s b q w) 0
-through-turn reach panel s knob from to b q w h is ne =
-    let there : w.knob ≡ knob → panel w.knob ≡ from = λ e. ap panel e ∙ is in
-    grind (arith, nat_tests)
-
 -- a key's way is the place where it lands, if it is set
 pub way-is : (reach : Reaches) (s : Places) (w : Lead) (key b q : ℕ) (o : Option ℕ) → cond (s w.from key) (landing w.raise (reach w.to) key) None ≡ o → w.lowest ≤ key → key ≤ w.highest → way reach s w b q key ≡ (b == w.to && is_at o q)
 way-is reach s w key b q o e low high =
@@ -107,12 +102,23 @@ abbrev pub Swung : Option Bool → ℕ → ℕ → ℕ → Type 0
 Swung None new old by = new ≡ old
 Swung (Some up) new old by = new + cond up 0 by ≡ old + cond up by 0
 
-pub through-swing : (reach : Reaches) (panel : Panel) (s : Places) (knob from to b q : ℕ) (w : Lead) → knob < 64 → panel knob ≡ from → from ≢ to → (o : Option Bool) → swing w knob from to ≡ o → Swung o (through reach (knob_to panel knob to) s b q w) (through reach panel s b q w) (span reach s b q w)
-through-swing reach panel s knob from to b q w few was ne o is =
-    subst (λ x. Swung x (through reach (knob_to panel knob to) s b q w) (through reach panel s b q w) (span reach s b q w)) is (by (w.knob == knob) (w.position == from) (w.position == to) (through reach (knob_to panel knob to) s b q w) (through reach panel s b q w) (span reach s b q w) (through-turn reach panel s knob from to b q w few was ne) (λ f t. ne (sym (eqb-true w.position from f) ∙ eqb-true w.position to t))) where
-      by : (k f t : Bool) (new old by : ℕ) → new + cond (k && f) by 0 ≡ old + cond (k && t) by 0 → (f ≡ true → t ≢ true) → Swung (cond k (cond f (Some false) (cond t (Some true) None)) None) new old by
-      by true true true new old d e apart = absurd (apart refl refl)
-      by true true false new old d e apart = e
-      by true false true new old d e apart = e
-      by true false false new old d e apart = omega arith
-      by false f t new old d e apart = omega arith
+-- a knob that turns gives or takes all the ways of a wire that starts or stops to be live
+pub through-swing : (reach : Reaches) (panel : Panel) (s : Places) (knob from to b q : ℕ) (w : Lead) → panel knob ≡ from → from ≢ to → (o : Option Bool) → swing w knob from to ≡ o → Swung o (through reach (knob_to panel knob to) s b q w) (through reach panel s b q w) (span reach s b q w)
+through-swing reach panel s knob from to b q w was ne o is =
+    subst (λ x. Swung x (through reach (knob_to panel knob to) s b q w) (through reach panel s b q w) (span reach s b q w)) is (by w.setting (span reach s b q w))
+  where
+    by : (c : Option Setting) (ways : ℕ) → Swung (swing_of c knob from to) (cond (stands (knob_to panel knob to) c) ways 0) (cond (stands panel c) ways 0) ways
+    by None ways = refl
+    by (Some t) ways = turned (t.knob == knob) (t.position == from) (t.position == to) _ _ ways one (λ f g. ne (sym (eqb-true t.position from f) ∙ eqb-true t.position to g)) where
+      there : t.knob ≡ knob → panel t.knob ≡ from
+      there e = ap panel e ∙ was
+
+      one : cond (stands (knob_to panel knob to) (Some t)) ways 0 + cond (t.knob == knob && t.position == from) ways 0 ≡ cond (stands panel (Some t)) ways 0 + cond (t.knob == knob && t.position == to) ways 0
+      one = grind (arith, nat_tests, there)
+
+      turned : (k f g : Bool) (new old by : ℕ) → new + cond (k && f) by 0 ≡ old + cond (k && g) by 0 → (f ≡ true → g ≢ true) → Swung (cond k (cond f (Some false) (cond g (Some true) None)) None) new old by
+      turned true true true new old d e apart = absurd (apart refl refl)
+      turned true true false new old d e apart = e
+      turned true false true new old d e apart = e
+      turned true false false new old d e apart = omega arith
+      turned false f g new old d e apart = omega arith

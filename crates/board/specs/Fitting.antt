@@ -1,10 +1,11 @@
 -- Fitting a wire: its checks in their order, and the wire as it is kept. Assumes nothing.
-use Rattle.std.specs.Prelude.{ℕ, ◌+◌, ◌-◌, Bool, cond, not, ◌&&◌, List, [], ◌∷◌, length, ℤ, pos, negsuc, is_ok, Ok, Err, Result, nat_le, nat_lt}
+use Rattle.std.specs.Prelude.{ℕ, ◌+◌, ◌-◌, Bool, cond, not, ◌&&◌, List, [], ◌∷◌, length, ℤ, pos, negsuc, is_ok, Some, None, Ok, Err, Option, Result, ◌==◌, nat_le, nat_lt}
 use Rattle.chest.specs.declared.fault.ChestFault.TheVariants.{Row}
 use Rattle.chest.specs.Places.{Places}
 use Rattle.chest.specs.Meaning.{Meaning}
-use Rattle.board.specs.declared.wire.Wire.{Wire}
+use Rattle.fittings.specs.declared.Wire.{Wire}
 use Rattle.board.specs.declared.wire.Lead.{Lead}
+use Rattle.board.specs.declared.wire.Setting.{Setting}
 use Rattle.board.specs.declared.fault.BoardFault.{BoardFault}
 use Rattle.board.specs.declared.fault.RowRefused.{RowRefused}
 use Rattle.board.specs.declared.fault.BoardFault.TheVariants.{Held, Full, Keys, ToRow, NoPlaces, Shift, Knob, Position}
@@ -46,10 +47,14 @@ abbrev pub fit_answer : Layout → Meaning → Wire → Result Unit BoardFault
 fit_answer l m w =
     checked ((is_free l.register, Held) ∷ (nat_lt (length l.wires) 128, Full) ∷ wire_checks l m w) tt
 
+-- knob 64 means that the wire is always live
+abbrev pub setting_of : Wire → Option Setting
+setting_of w = cond (w.knob == 64) None (Some (record { knob = w.knob; position = w.position }))
+
 -- the wire as it is kept
 abbrev pub lead_of : Wire → Lead
 lead_of w =
-    record { from = w.from; lowest = w.lowest; highest = w.highest; to = w.to; raise = raised w.shift; knob = w.knob; position = w.position }
+    record { from = w.from; lowest = w.lowest; highest = w.highest; to = w.to; raise = raised w.shift; setting = setting_of w }
 
 -- the reach that the chest below answers for the to-row, or its fault with both rows
 abbrev pub to_reach : Meaning → Wire → Result ℕ RowRefused

@@ -1,9 +1,9 @@
 -- What the image is, in words: a place is in it where some wire leads there from a set key. Assumes nothing.
-use Rattle.std.specs.Prelude.{◌≡◌, ℕ, ◌<◌, ◌≤◌, true, ◌||◌, ◌⊎◌, List, ◌++◌, length, ℤ, pos, ◌+ℤ◌, ◌-ℤ◌, Decides, nat_lt}
+use Rattle.std.specs.Prelude.{◌≡◌, ℕ, ◌<◌, ◌≤◌, true, ◌||◌, List, ◌++◌, length, ℤ, pos, ◌+ℤ◌, ◌-ℤ◌, Decides, IfSome, nat_lt}
 use Rattle.std.specs.List.{HoldsAt}
 use Rattle.chest.specs.Places.{Places, none}
 use Rattle.chest.specs.Meaning.{Panel}
-use Rattle.board.specs.declared.wire.Wire.{Wire}
+use Rattle.fittings.specs.declared.Wire.{Wire}
 use Rattle.board.specs.declared.wire.Lead.{Lead}
 use Rattle.board.specs.Wires.{Reaches, image, ways_to}
 use Rattle.board.specs.Fitting.{in_range, lead_of}
@@ -16,7 +16,7 @@ shift_of w = pos w.raise -ℤ pos 96
 -- from the lowest to the highest, is shifted to q, which is below the reach of row b below
 pub record Reached (reach : Reaches) (panel : Panel) (s : Places) (b q : ℕ) (w : Lead) : Type 0 where
   pub key : ℕ
-  pub live : (w.knob ≡ 64) ⊎ (panel w.knob ≡ w.position)
+  pub live : IfSome w.setting (λ t. panel t.knob ≡ t.position)
   pub row : w.to ≡ b
   pub held : s w.from key ≡ true
   pub low : w.lowest ≤ key

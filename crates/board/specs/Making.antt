@@ -1,17 +1,10 @@
 -- Making a board: the chest below is cleared, and the board starts with no wire and no key. Assumes nothing.
-use Rattle.std.specs.Prelude.{ℕ, false, cond, ◌&&◌, List, [], ◌==◌, nat_lt, slice_index}
+use Rattle.std.specs.Prelude.{ℕ, cond, List, [], nat_lt, slice_index}
 use Rattle.chest.specs.Places.{none}
-use Rattle.chest.specs.Meaning.{Meaning, Panel, with_register}
+use Rattle.chest.specs.Meaning.{Meaning, Panel}
 use Rattle.board.specs.Wires.{reach_of}
 use Rattle.board.specs.Layout.{Layout}
 use Rattle.board.specs.Board.{board_meaning}
-
--- the first n places of a row cleared, and all places of the first n rows
-abbrev pub row_cleared : Meaning → ℕ → ℕ → Meaning
-row_cleared m row n = with_register m (λ r p. cond (r == row && nat_lt p n) false (m.register r p))
-
-abbrev pub rows_cleared : Meaning → ℕ → Meaning
-rows_cleared m n = with_register m (λ r p. cond (nat_lt r n && nat_lt p (m.reach r)) false (m.register r p))
 
 -- the positions that a table of 64 knobs holds
 abbrev pub panel_of : List ℕ → Panel

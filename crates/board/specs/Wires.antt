@@ -1,8 +1,9 @@
 -- Where wires lead, the image of a register, and the number of ways to a place below. Assumes nothing.
-use Rattle.std.specs.Prelude.{ℕ, zero, suc, ◌+◌, ◌-◌, min, Bool, false, cond, ◌&&◌, ◌||◌, List, [], ◌∷◌, Some, None, sum_by, Option, ◌==◌, nat_le, nat_lt, slice_index}
+use Rattle.std.specs.Prelude.{ℕ, zero, suc, ◌+◌, ◌-◌, min, Bool, true, false, cond, ◌&&◌, ◌||◌, List, [], ◌∷◌, Some, None, sum_by, Option, ◌==◌, nat_le, nat_lt, slice_index}
 use Rattle.chest.specs.Places.{Places, total}
 use Rattle.chest.specs.Meaning.{Panel}
 use Rattle.board.specs.declared.wire.Lead.{Lead}
+use Rattle.board.specs.declared.wire.Setting.{Setting}
 
 -- how many places each row has
 abbrev pub Reaches : Type 0
@@ -12,9 +13,13 @@ Reaches = ℕ → ℕ
 abbrev pub reach_of : List ℕ → Reaches
 reach_of reaches r = cond (nat_lt r 16) (min (slice_index reaches r) 128) 0
 
--- a wire is live while its knob stands at its position; knob 64 means always
+-- a wire is live while its knob stands at its position, and always where it has no knob
+abbrev pub stands : Panel → Option Setting → Bool
+stands panel None = true
+stands panel (Some s) = panel s.knob == s.position
+
 abbrev pub live : Panel → Lead → Bool
-live panel w = w.knob == 64 || panel w.knob == w.position
+live panel w = stands panel w.setting
 
 -- the place that a key leads to: key + shift, if the row below has that place
 unfoldable pub landing : ℕ → ℕ → ℕ → Option ℕ

@@ -11,9 +11,11 @@ ghost use Rattle.std.proofs.lemmas.Bool.{and_parts, ltb-true};
 ghost use Rattle.std.proofs.lemmas.Bool.Decides.{nat_tests};
 
 use crate::handing::{hand_key, hand_knob};
+use crate::reads::Turn;
 use crate::wiring::Wiring;
 use chest::chest::{Chest, KNOBS, POSITIONS, ROWS};
 use chest::fault::ChestFault;
+use chest::place::Place;
 use chest::sender::Sender;
 
 #[derive(Drop)]
@@ -31,26 +33,23 @@ impl<C: Chest> RelayBoard<C> {
     }
 
     // Puts a key that stands the other way, and hands down what it touches.
-    fn put(&mut self, row: usize, key: usize, on: bool)
-        requires place { key < (layout self.old.wiring).reach row }
-        requires other { (layout self.old.wiring).register row key ≡ not on }
-        ensures { Becomes C.Chest.meaning C.Chest.settled self.old self.new (with_register (meaning_of C.Chest.meaning self.old) (put (layout self.old.wiring).register row key on)) }
+    fn put(&mut self, at: Place, on: bool)
+        requires place { at.place < (layout self.old.wiring).reach at.row }
+        requires other { (layout self.old.wiring).register at.row at.place ≡ not on }
+        ensures { Becomes C.Chest.meaning C.Chest.settled self.old self.new (with_register (meaning_of C.Chest.meaning self.old) (put (layout self.old.wiring).register at.row at.place on)) }
     {
-        self.wiring.put(row, key, on);
-        hand_key(&mut self.below, &self.wiring, row, key);
+        self.wiring.put(at, on);
+        hand_key(&mut self.below, &self.wiring, at);
     }
 
     // Turns a knob that stands elsewhere, and hands down what its wires do.
-    fn move_knob(&mut self, knob: usize, position: usize)
-        requires few { knob < 64 }
-        requires steps { position < 16 }
-        requires turns { (layout self.old.wiring).panel knob ≡ position → ⊥ }
-        ensures { Becomes C.Chest.meaning C.Chest.settled self.old self.new (with_panel (meaning_of C.Chest.meaning self.old) (knob_to (meaning_of C.Chest.meaning self.old).panel knob position)) }
+    fn move_knob(&mut self, turn: Turn)
+        requires { (layout self.old.wiring).panel turn.knob ≡ turn.from }
+        ensures { Becomes C.Chest.meaning C.Chest.settled self.old self.new (with_panel (meaning_of C.Chest.meaning self.old) (knob_to (meaning_of C.Chest.meaning self.old).panel turn.knob turn.to)) }
     {
-        let from = self.wiring.harness.position(knob);
-        self.wiring.turn(knob, from, position);
-        hand_knob(&mut self.below, &self.wiring, knob, from, position);
-        let _ = self.below.turn(knob, position);
+        self.wiring.turn(turn);
+        hand_knob(&mut self.below, &self.wiring, turn);
+        let _ = self.below.turn(turn.knob, turn.to);
     }
 }
 
@@ -67,7 +66,7 @@ impl<C: Chest> Chest for RelayBoard<C> {
         if row >= ROWS {
             return Err(ChestFault::Row { row });
         }
-        Ok(self.wiring.harness.reach(row))
+        Ok(self.wiring.harness.reaches.of(row))
     }
 
     fn position(&self, knob: usize) -> Result<usize, ChestFault> {
@@ -80,7 +79,7 @@ impl<C: Chest> Chest for RelayBoard<C> {
             return Err(ChestFault::Place { row, place });
         }
         if self.wiring.harness.is_set(row, place) != on {
-            self.put(row, place, on);
+            self.put(Place { row, place }, on);
         }
         Ok(())
     }
@@ -92,8 +91,13 @@ impl<C: Chest> Chest for RelayBoard<C> {
         if position >= POSITIONS {
             return Err(ChestFault::Position { knob, position });
         }
-        if self.wiring.harness.position(knob) != position {
-            self.move_knob(knob, position);
+        let from = self.wiring.harness.position(knob);
+        if from != position {
+            self.move_knob(Turn {
+                knob,
+                from,
+                to: position,
+            });
         }
         Ok(())
     }

@@ -1,51 +1,46 @@
 // The changes of a board's wiring: a key, a knob, a wire.
-ghost use Rattle.std.specs.Prelude.{◌≡◌, ℕ, ◌<◌, false, not, ◌≢◌, nat_lt};
+ghost use Rattle.std.specs.Prelude.{◌≡◌, ℕ, ◌<◌, false, not, nat_lt, length};
 ghost use Rattle.board.specs.Layout.{layout, with_key, with_knob, with_wire, ways_of};
 
 use crate::counts::{count_key, count_knob};
+use crate::reads::Turn;
 use crate::wire::Lead;
 use crate::wiring::Wiring;
-use chest::chest::PLACES;
+use chest::place::Place;
 
 impl Wiring {
     // Puts a key that stands the other way.
-    pub(crate) fn put(&mut self, row: usize, key: usize, on: bool)
-        requires place { key < (layout self.old).reach row }
-        requires other { (layout self.old).register row key ≡ not on }
-        ensures { layout self.new ≡ with_key (layout self.old) row key on }
+    pub(crate) fn put(&mut self, at: Place, on: bool)
+        requires place { at.place < (layout self.old).reach at.row }
+        requires other { (layout self.old).register at.row at.place ≡ not on }
+        ensures { layout self.new ≡ with_key (layout self.old) at.row at.place on }
     {
-        count_key(&mut self.ways, &self.harness, row, key, on);
-        self.harness.keys[PLACES * row + key] = on;
+        count_key(&mut self.ways, &self.harness, at, on);
+        self.harness.keys[at.index()] = on;
     }
 
     // Turns a knob from one position to another.
-    pub(crate) fn turn(&mut self, knob: usize, from: usize, to: usize)
-        requires few { knob < 64 }
-        requires steps { to < 16 }
-        requires was { (layout self.old).panel knob ≡ from }
-        requires turns { from ≢ to }
-        ensures { layout self.new ≡ with_knob (layout self.old) knob to }
+    pub(crate) fn turn(&mut self, turn: Turn)
+        requires { (layout self.old).panel turn.knob ≡ turn.from }
+        ensures { layout self.new ≡ with_knob (layout self.old) turn.knob turn.to }
     {
-        count_knob(&mut self.ways, &self.harness, knob, from, to);
-        self.harness.positions[knob] = to as u8;
+        count_knob(&mut self.ways, &self.harness, turn);
+        self.harness.positions[turn.knob] = turn.to as u8;
     }
 
     // Whether some way leads to a place below.
-    pub(crate) fn stands(&self, row: usize, place: usize) -> bool
-        requires place { (row < 16) × (place < 128) }
-        ensures { result ≡ nat_lt 0 (ways_of (layout self.now) row place) }
+    pub(crate) fn stands(&self, at: Place) -> bool
+        ensures { result ≡ nat_lt 0 (ways_of (layout self.now) at.row at.place) }
     {
-        self.ways[PLACES * row + place] > 0
+        self.ways[at.index()] > 0
     }
 
     // One wire more, while no key is set.
     pub(crate) fn add(&mut self, lead: Lead)
-        requires room { self.old.harness.len < 128 }
+        requires room { length (layout self.old).wires < 128 }
         requires free { (r p : ℕ) → (layout self.old).register r p ≡ false }
         ensures { layout self.new ≡ with_wire (layout self.old) lead }
     {
-        let at = self.harness.len;
-        self.harness.leads[at] = lead;
-        self.harness.len = at + 1;
+        self.harness.leads.push(lead);
     }
 }

@@ -6,14 +6,14 @@ ghost use Rattle.board.specs.declared.fault.BoardFault.TheVariants.{ToRow};
 use chest::fault::ChestFault;
 
 // The to-row of an offered wire, with the fault that the chest below gives to it.
-#[derive(Clone, Copy)]
+#[derive(Clone, Copy, Debug, PartialEq)]
 pub struct RowRefused {
     pub from: u16,
     pub to: u16,
     pub fault: ChestFault,
 }
 
-#[derive(Clone, Copy)]
+#[derive(Clone, Copy, Debug, PartialEq)]
 pub enum BoardFault {
     // Some place of the board's register is set.
     Held,
@@ -48,12 +48,12 @@ impl BoardFault {
         match self {
             BoardFault::Held => 15,
             BoardFault::Full => 16,
-            BoardFault::Keys { from: _, to: _ } => 17,
+            BoardFault::Keys { .. } => 17,
             BoardFault::ToRow(_) => 11,
-            BoardFault::NoPlaces { from: _, to: _ } => 18,
-            BoardFault::Shift { from: _, to: _ } => 19,
-            BoardFault::Knob { knob: _ } => 13,
-            BoardFault::Position { knob: _ } => 14,
+            BoardFault::NoPlaces { .. } => 18,
+            BoardFault::Shift { .. } => 19,
+            BoardFault::Knob { .. } => 13,
+            BoardFault::Position { .. } => 14,
         }
     }
 }

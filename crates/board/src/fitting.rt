@@ -1,45 +1,51 @@
 // Fitting a wire to a board.
-ghost use Rattle.std.specs.Prelude.{◌≡◌, OnErr, OnOk};
+ghost use Rattle.std.specs.Prelude.{◌≡◌, ◌<◌, OnErr, OnOk};
 ghost use Rattle.board.specs.Harness.{register};
 ghost use Rattle.board.specs.Wires.{some};
 ghost use Rattle.board.specs.Layout.{layout, with_wire};
 ghost use Rattle.board.specs.Board.{Becomes};
-ghost use Rattle.board.specs.Fitting.{checked, is_free, wire_checks, fit_answer, fit_after, lead_of, to_reach};
+ghost use Rattle.board.specs.Fitting.{checked, is_free, wire_checks, setting_of, fit_answer, fit_after, lead_of, to_reach};
 
 use crate::board::RelayBoard;
 use crate::fault::{BoardFault, RowRefused};
-use crate::harness::{Harness, WIRES};
-use crate::reads::ALWAYS;
-use crate::wire::{Lead, Wire};
+use crate::harness::Harness;
+use crate::wire::{Lead, Setting, Wire};
 use chest::chest::{Chest, PLACES, POSITIONS, ROWS};
 
 // How far a wire shifts, up or down.
 const SHIFTS: i16 = 96;
+
+// The knob of an offered wire that is always live.
+const ALWAYS: u16 = 64;
 
 impl Harness {
     // Whether some place of a row is set.
     fn has_key(&self, row: usize) -> bool
         ensures { result ≡ some 128 (register self.now row) }
     {
-        for key in 0..PLACES {
-            if self.is_set(row, key) {
-                return true;
-            }
-        }
-        false
+        (0..PLACES).any(|key| self.is_set(row, key))
     }
 
     // Whether no place is set.
     fn is_free(&self) -> bool
         ensures { result ≡ is_free (register self.now) }
     {
-        for row in 0..ROWS {
-            if self.has_key(row) {
-                return false;
-            }
-        }
-        true
+        !(0..ROWS).any(|row| self.has_key(row))
     }
+}
+
+// When the wire is live: with knob 64 always.
+fn setting(wire: Wire) -> Option<Setting>
+    requires { (wire.knob < 65) × (wire.position < 16) }
+    ensures { result ≡ setting_of wire }
+{
+    if wire.knob == ALWAYS {
+        return None;
+    }
+    Some(Setting {
+        knob: wire.knob as u8,
+        position: wire.position as u8,
+    })
 }
 
 impl<C: Chest> RelayBoard<C> {
@@ -47,37 +53,34 @@ impl<C: Chest> RelayBoard<C> {
     fn to_reach(&self, wire: Wire) -> Result<usize, RowRefused>
         ensures { result ≡ to_reach (C.Chest.meaning self.now.below) wire }
     {
-        match self.below.reach(wire.to as usize) {
-            Ok(reach) => Ok(reach),
-            Err(fault) => Err(RowRefused {
+        self.below
+            .reach(usize::from(wire.to))
+            .map_err(|fault| RowRefused {
                 from: wire.from,
                 to: wire.to,
                 fault,
-            }),
-        }
+            })
     }
 
     // The wire as the board keeps it, or why it takes none such.
     fn lead(&self, wire: Wire) -> Result<Lead, BoardFault>
         ensures { result ≡ checked (wire_checks (layout self.now.wiring) (C.Chest.meaning self.now.below) wire) (lead_of wire) }
     {
-        let from = wire.from;
-        let to = wire.to;
-        let knob = wire.knob;
-        let reach = self.wiring.harness.reach(from as usize);
-        if from as usize >= ROWS || wire.lowest > wire.highest || wire.highest as usize >= reach {
+        let Wire { from, to, knob, .. } = wire;
+        let reach = self.wiring.harness.reaches.of(usize::from(from));
+        if wire.lowest > wire.highest || usize::from(wire.highest) >= reach {
             return Err(BoardFault::Keys { from, to });
         }
         if self.to_reach(wire)? == 0 {
             return Err(BoardFault::NoPlaces { from, to });
         }
-        if wire.shift < -SHIFTS || wire.shift > SHIFTS {
+        if !(-SHIFTS..=SHIFTS).contains(&wire.shift) {
             return Err(BoardFault::Shift { from, to });
         }
-        if knob > ALWAYS as u16 {
+        if knob > ALWAYS {
             return Err(BoardFault::Knob { knob });
         }
-        if wire.position as usize >= POSITIONS {
+        if usize::from(wire.position) >= POSITIONS {
             return Err(BoardFault::Position { knob });
         }
         Ok(Lead {
@@ -86,8 +89,7 @@ impl<C: Chest> RelayBoard<C> {
             highest: wire.highest as u8,
             to: to as u8,
             raise: (wire.shift + SHIFTS) as u8,
-            knob: knob as u8,
-            position: wire.position as u8,
+            setting: setting(wire),
         })
     }
 
@@ -101,7 +103,7 @@ impl<C: Chest> RelayBoard<C> {
         if !self.wiring.harness.is_free() {
             return Err(BoardFault::Held);
         }
-        if self.wiring.harness.len >= WIRES {
+        if self.wiring.harness.leads.is_full() {
             return Err(BoardFault::Full);
         }
         let lead = self.lead(wire)?;

@@ -2,19 +2,19 @@
 ghost use Rattle.board.specs.Layout.{layout};
 ghost use Rattle.board.specs.Handing.{Handed, from_key, from_wire, from_knob};
 
-use crate::reads::swing;
+use crate::reads::Turn;
 use crate::wire::Lead;
 use crate::wiring::Wiring;
 use chest::chest::Chest;
+use chest::place::Place;
 
 // The places to which a key leads.
-pub(crate) fn hand_key<C: Chest>(below: &mut C, wiring: &Wiring, row: usize, key: usize)
-    ensures { Handed C.Chest.meaning C.Chest.settled (layout wiring.now) (from_key (layout wiring.now) row key) below.old below.new }
+pub(crate) fn hand_key<C: Chest>(below: &mut C, wiring: &Wiring, key: Place)
+    ensures { Handed C.Chest.meaning C.Chest.settled (layout wiring.now) (from_key (layout wiring.now) key.row key.place) below.old below.new }
 {
-    for i in 0..wiring.harness.len {
-        let w = wiring.harness.leads[i];
-        if let Some((to, place)) = wiring.harness.outlet(w, row, key) {
-            let _ = below.set(to, place, wiring.stands(to, place));
+    for w in wiring.harness.leads.as_slice() {
+        if let Some(at) = wiring.harness.outlet(*w, key.row, key.place) {
+            let _ = below.set(at.row, at.place, wiring.stands(at));
         }
     }
 }
@@ -23,28 +23,20 @@ pub(crate) fn hand_key<C: Chest>(below: &mut C, wiring: &Wiring, row: usize, key
 fn hand_wire<C: Chest>(below: &mut C, wiring: &Wiring, w: Lead)
     ensures { Handed C.Chest.meaning C.Chest.settled (layout wiring.now) (from_wire (layout wiring.now) w) below.old below.new }
 {
-    let to = w.to as usize;
-    for key in w.lowest as usize..w.highest as usize + 1 {
-        if let Some(place) = wiring.harness.lands(w, key) {
-            let _ = below.set(to, place, wiring.stands(to, place));
+    for key in usize::from(w.lowest)..usize::from(w.highest) + 1 {
+        if let Some(at) = wiring.harness.lands(w, key) {
+            let _ = below.set(at.row, at.place, wiring.stands(at));
         }
     }
 }
 
 // The places to which the wires of a knob lead that start or stop to be live.
-pub(crate) fn hand_knob<C: Chest>(
-    below: &mut C,
-    wiring: &Wiring,
-    knob: usize,
-    from: usize,
-    to: usize,
-)
-    ensures { Handed C.Chest.meaning C.Chest.settled (layout wiring.now) (from_knob (layout wiring.now) knob from to) below.old below.new }
+pub(crate) fn hand_knob<C: Chest>(below: &mut C, wiring: &Wiring, turn: Turn)
+    ensures { Handed C.Chest.meaning C.Chest.settled (layout wiring.now) (from_knob (layout wiring.now) turn.knob turn.from turn.to) below.old below.new }
 {
-    for i in 0..wiring.harness.len {
-        let w = wiring.harness.leads[i];
-        if swing(w, knob, from, to).is_some() {
-            hand_wire(below, wiring, w);
+    for w in wiring.harness.leads.as_slice() {
+        if w.swing(turn).is_some() {
+            hand_wire(below, wiring, *w);
         }
     }
 }

@@ -2,8 +2,6 @@
 ghost use Rattle.board.specs.Laws.{ImageLaw};
 
 // What is in the image of a register, in words: it comes from set keys through live wires, and from nothing else.
-pub fn image_law() -> u8
+pub fn image_law()
     ensures { ImageLaw }
-{
-    0
-}
+{}

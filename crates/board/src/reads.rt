@@ -1,105 +1,119 @@
 // What the tables of a board answer.
-ghost use Rattle.std.specs.Prelude.{◌≡◌, ℕ, ◌<◌, if◌then◌else◌, None};
-ghost use Rattle.board.specs.Wires.{landing};
-ghost use Rattle.board.specs.Harness.{own, beneath, register, panel, outlet, swing};
+ghost use Rattle.std.specs.Prelude.{◌≡◌, ◌<◌, ◌≢◌, if◌then◌else◌, None, IfSome};
+ghost use Rattle.std.specs.Option.{option_map};
+ghost use Rattle.board.specs.Wires.{reach_of, landing, live};
+ghost use Rattle.board.specs.Harness.{beneath, register, panel, outlet, swing, spot};
 
-use crate::harness::Harness;
+use crate::harness::{Harness, RowReaches};
 use crate::wire::Lead;
-use chest::chest::{KNOBS, PLACES, ROWS};
-
-// The knob of a wire that is always live.
-pub(crate) const ALWAYS: u8 = 64;
+use chest::chest::PLACES;
+use chest::place::Place;
 
 // By how much a shift is raised in a lead.
 pub(crate) const RAISED: usize = 96;
+
+// A knob that goes from one position to another.
+#[derive(Clone, Copy)]
+pub(crate) struct Turn {
+    pub knob: usize,
+    pub from: usize,
+    pub to: usize,
+    ghost few: { knob < 64 },
+    ghost steps: { to < 16 },
+    ghost turns: { from ≢ to },
+}
 
 // The place that a key leads to, if a row of that reach has it.
 pub(crate) fn landing(raise: u8, reach: usize, key: usize) -> Option<usize>
     requires { key < 256 }
     ensures { result ≡ landing raise reach key }
 {
-    let raised = key + raise as usize;
-    if raised >= RAISED && raised - RAISED < reach {
-        Some(raised - RAISED)
-    } else {
-        None
+    (key + usize::from(raise))
+        .checked_sub(RAISED)
+        .filter(|place| *place < reach)
+}
+
+impl Lead {
+    // Whether the wire starts to be live, or stops, where a knob turns.
+    pub(crate) fn swing(self, turn: Turn) -> Option<bool>
+        ensures { result ≡ swing self turn.knob turn.from turn.to }
+    {
+        let setting = self.setting?;
+        let position = usize::from(setting.position);
+        if usize::from(setting.knob) != turn.knob {
+            None
+        } else if position == turn.from {
+            Some(false)
+        } else if position == turn.to {
+            Some(true)
+        } else {
+            None
+        }
     }
 }
 
-// Whether a wire starts to be live, or stops, where a knob goes from one position to another.
-pub(crate) fn swing(w: Lead, knob: usize, from: usize, to: usize) -> Option<bool>
-    ensures { result ≡ swing w knob from to }
-{
-    if w.knob as usize != knob {
-        None
-    } else if w.position as usize == from {
-        Some(false)
-    } else if w.position as usize == to {
-        Some(true)
-    } else {
-        None
+impl RowReaches {
+    // The reach of a row: a number above 128 counts as 128, and no row is above the 15th.
+    pub(crate) fn of(&self, row: usize) -> usize
+        ensures { result ≡ reach_of self.now.table row }
+    {
+        self.table
+            .get(row)
+            .map_or(0, |reach| usize::from(*reach).min(PLACES))
     }
 }
 
 impl Harness {
-    pub(crate) fn reach(&self, row: usize) -> usize
-        ensures { result ≡ own self.now row }
-    {
-        if row < ROWS {
-            (self.reaches[row] as usize).min(PLACES)
-        } else {
-            0
-        }
-    }
-
-    pub(crate) fn reach_below(&self, row: usize) -> usize
-        ensures { result ≡ beneath self.now row }
-    {
-        if row < ROWS {
-            (self.below[row] as usize).min(PLACES)
-        } else {
-            0
-        }
-    }
-
     pub(crate) fn is_set(&self, row: usize, key: usize) -> bool
         ensures { result ≡ register self.now row key }
     {
-        row < ROWS && key < self.reach(row) && self.keys[PLACES * row + key]
+        key < self.reaches.of(row) && self.keys[PLACES * row + key]
     }
 
     pub(crate) fn position(&self, knob: usize) -> usize
         ensures { result ≡ panel self.now knob }
     {
-        if knob < KNOBS {
-            self.positions[knob] as usize
-        } else {
-            0
+        self.positions
+            .get(knob)
+            .map_or(0, |position| usize::from(*position))
+    }
+
+    // Whether the knob of a wire stands where the wire waits for it.
+    fn is_live(&self, w: Lead) -> bool
+        ensures { result ≡ live (panel self.now) w }
+    {
+        match w.setting {
+            None => true,
+            Some(setting) => self.position(usize::from(setting.knob))
+                == usize::from(setting.position),
         }
     }
 
-    pub(crate) fn outlet(&self, w: Lead, row: usize, key: usize) -> Option<(usize, usize)>
-        ensures { result ≡ outlet (beneath self.now) (panel self.now) w row key }
+    // Where a key of a row leads through a wire.
+    pub(crate) fn outlet(&self, w: Lead, row: usize, key: usize) -> Option<Place>
+        ensures { option_map spot result ≡ outlet (beneath self.now) (panel self.now) w row key }
     {
-        let live = w.knob == ALWAYS || self.position(w.knob as usize) == w.position as usize;
-        if live && row == w.from as usize && w.lowest as usize <= key && key <= w.highest as usize {
-            let to = w.to as usize;
-            let place = landing(w.raise, self.reach_below(to), key)?;
-            Some((to, place))
+        let lies = usize::from(w.lowest) <= key && key <= usize::from(w.highest);
+        if self.is_live(w) && row == usize::from(w.from) && lies {
+            let to = usize::from(w.to);
+            let place = landing(w.raise, self.below.of(to), key)?;
+            Some(Place { row: to, place })
         } else {
             None
         }
     }
 
     // Where a key of a wire lands, if it is set.
-    pub(crate) fn lands(&self, w: Lead, key: usize) -> Option<usize>
+    pub(crate) fn lands(&self, w: Lead, key: usize) -> Option<Place>
         requires { key < 256 }
-        ensures { result ≡ (if register self.now w.from key then landing w.raise (beneath self.now w.to) key else None) }
+        ensures place { option_map (λ at. at.place) result ≡ (if register self.now w.from key then landing w.raise (beneath self.now w.to) key else None) }
+        ensures row { IfSome result (λ at. at.row ≡ w.to) }
     {
-        if self.is_set(w.from as usize, key) {
-            landing(w.raise, self.reach_below(w.to as usize), key)
-        } else {
-            None
+        if !self.is_set(usize::from(w.from), key) {
+            return None;
         }
+        let to = usize::from(w.to);
+        let place = landing(w.raise, self.below.of(to), key)?;
+        Some(Place { row: to, place })
     }
 }

@@ -1,5 +1,5 @@
 // A board's wires with the number of ways to each place below.
-ghost use Rattle.std.specs.Prelude.{◌≡◌, ◌≤◌, length};
+ghost use Rattle.std.specs.Prelude.{◌≡◌, length};
 ghost use Rattle.board.specs.Harness.{beneath, register, panel, wires};
 ghost use Rattle.board.specs.Counts.{Exact};
 
@@ -10,9 +10,7 @@ use crate::harness::{ALL_PLACES, Harness};
 pub(crate) struct Wiring {
     pub harness: Harness,
     pub ways: [u8; ALL_PLACES],
-    ghost slots: { length harness.leads ≡ 128 },
     ghost manual: { length harness.keys ≡ 2048 },
     ghost knobs: { length harness.positions ≡ 64 },
-    ghost room: { harness.len ≤ 128 },
     ghost exact: { Exact ways (beneath harness) (wires harness) (panel harness) (register harness) },
 }

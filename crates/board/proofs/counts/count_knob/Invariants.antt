@@ -1,4 +1,4 @@
--- The choice for `count_knob`: the wires before i count by the panel after.
+-- The wires so far count by the panel after.
 use Rattle.std.proofs.Common.{◌≡◌, ℕ, ◌<◌}
 use Rattle.chest.specs.Meaning.{knob_to}
 use Rattle.board.specs.Wires.{through}
@@ -7,6 +7,6 @@ use Rattle.board.specs.Counts.{at_place}
 use Rattle.board.proofs.Sums.{walked}
 use Rattle.board.proofs.counts.count_knob.Given as goal
 
-abbrev pub invariant-loop-i : goal.invariant-loop-i
-invariant-loop-i l =
-    (b q : ℕ) → b < 16 → q < 128 → at_place l.table b q ≡ walked (through (beneath l.h) (knob_to (panel l.h) l.knob l.to) (register l.h) b q) (through (beneath l.h) (panel l.h) (register l.h) b q) (wires l.h) l.i
+abbrev pub invariant-loop-w : goal.invariant-loop-w
+invariant-loop-w l =
+    (b q : ℕ) → b < 16 → q < 128 → at_place l.table b q ≡ walked (through (beneath l.h) (knob_to (panel l.h) l.turn.knob l.turn.to) (register l.h) b q) (through (beneath l.h) (panel l.h) (register l.h) b q) (wires l.h) l.w-index

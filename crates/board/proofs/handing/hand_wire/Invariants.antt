@@ -1,4 +1,4 @@
--- The choice for `hand_wire`: what the keys before `key` lead to is visited.
+-- What the keys before `key` lead to is visited.
 use Rattle.board.specs.Wires.{some, way}
 use Rattle.board.specs.Layout.{layout}
 use Rattle.board.specs.Handing.{Handed}

@@ -1,12 +1,8 @@
-use Rattle.std.proofs.Common.{arith}
+use Rattle.std.proofs.Common.{arith, of_calls}
 use Rattle.std.proofs.lemmas.Bool.Decides.{nat_tests}
 use Rattle.board.specs.Wires.{landing}
 use Rattle.board.proofs.reads.landing.Goals as goal
 
-pub returns-then-raised-reach : goal.returns-then-raised-reach
+pub returns : goal.returns
 unfolding landing
-returns-then-raised-reach c = grind (arith, nat_tests)
-
-pub returns-else-raised-ge-RAISED : goal.returns-else-raised-ge-RAISED
-unfolding landing
-returns-else-raised-ge-RAISED c = grind (arith, nat_tests)
+returns c = grind (arith, nat_tests, of_calls, c.filter.ensures, c.checked_sub.ensures)

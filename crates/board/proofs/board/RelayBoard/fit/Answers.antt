@@ -1,10 +1,10 @@
 -- The answers for `RelayBoard::fit`: the wire is refused, or stands last.
 use Rattle.std.proofs.Common.{◌≡◌, ◌<◌, true, length, Err, sym, refl, ap, ◌∙◌, subst, arith}
 use Rattle.std.proofs.lemmas.Result.{err_from_is_err_and, IfOk-from_err}
+use Rattle.std.proofs.lemmas.Bool.Decides.{nat_tests}
 use Rattle.board.specs.Layout.{layout, with_wire}
 use Rattle.board.specs.Board.{board_meaning, Stands}
 use Rattle.board.specs.Fitting.{is_free, wire_checks, lead_of}
-use Rattle.board.proofs.Counting.{wires-len}
 use Rattle.board.proofs.Fits.{checks_fail, checks_pass, fit_checks, fit_refused, fit_done, refused_so, free_of, wire_stands}
 use Rattle.board.proofs.board.RelayBoard.fit.Goals as goal
 
@@ -17,7 +17,7 @@ returns-in_err-lead g c =
     let p = err_from_is_err_and c.from_residual.result c.from_residual.ensures.1 in
     let e = c.in_err-lead.field-0.0 in
     let free : is_free l.register ≡ true = sym c.is_free.ensures ∙ c.if-not-is_free.false in
-    let room : length l.wires < 128 = omega (arith, c.if-self-ge-WIRES.false, wires-len wiring.harness wiring.slots wiring.room) in
+    let room : length l.wires < 128 = grind (arith, nat_tests, c.is_full.ensures.value, c.is_full.ensures.fits, c.if-is_full.false) in
     let answer = fit_checks l m w free room ∙ checks_fail (wire_checks l m w) (lead_of w) tt e (sym c.lead.ensures ∙ c.in_err-lead.was) in
     record {
       answer = p.1 ∙ ap Err p.2 ∙ sym answer;
@@ -27,7 +27,7 @@ returns-in_err-lead g c =
     }
 
 pub add-requires : goal.add-requires
-add-requires g c = record { room = c.if-self-ge-WIRES.false; free = free_of c.args.self.now.wiring.harness (sym c.is_free.ensures ∙ c.if-not-is_free.false) }
+add-requires g c = record { room = grind (arith, nat_tests, c.is_full.ensures.value, c.is_full.ensures.fits, c.if-is_full.false); free = free_of c.args.self.now.wiring.harness (sym c.is_free.ensures ∙ c.if-not-is_free.false) }
 
 pub returns : goal.returns
 returns g c =
@@ -36,7 +36,7 @@ returns g c =
     let m = g.C.Chest.meaning c.args.self.now.below in
     let w = c.args.wire in
     let free : is_free l.register ≡ true = sym c.is_free.ensures ∙ c.if-not-is_free.false in
-    let room : length l.wires < 128 = omega (arith, c.if-self-ge-WIRES.false, wires-len wiring.harness wiring.slots wiring.room) in
+    let room : length l.wires < 128 = grind (arith, nat_tests, c.is_full.ensures.value, c.is_full.ensures.fits, c.if-is_full.false) in
     let pass = checks_pass (wire_checks l m w) (lead_of w) c.in_ok-lead.lead tt (sym c.lead.ensures ∙ c.in_ok-lead.was) in
     let lay : layout c.add.new.self ≡ with_wire l (lead_of w) = c.add.ensures ∙ ap (with_wire l) pass.1 in
     let answer = fit_checks l m w free room ∙ pass.0 in

@@ -1,5 +1,5 @@
--- The answers for `Wiring::put`: the numbers are those of the register with the key put.
-use Rattle.std.proofs.Common.{◌+◌, ◌*◌, sym, ap, ◌∙◌}
+-- The numbers are those of the register with the key put.
+use Rattle.std.proofs.Common.{sym, ap, ◌∙◌}
 use Rattle.std.proofs.lemmas.List.{length-set}
 use Rattle.board.specs.Wires.{ways_to}
 use Rattle.board.specs.Layout.{layout}
@@ -11,12 +11,11 @@ invariant_of-self c =
     let h = c.args.self.now.harness in
     let l = layout c.args.self.now in
     let self = c.args.self.now in
-    let held = held-put h.reaches h.keys c.args.row c.args.key c.args.on self.manual c.requires.place in
+    let at = c.args.at in
+    let held = held-put h.reaches.table h.keys at.row at.place c.index.result c.args.on self.manual c.requires.place c.index.ensures.value in
     record {
-      slots = self.slots;
-      manual = length-set h.keys (128 * c.args.row + c.args.key) c.args.on ∙ self.manual;
+      manual = length-set h.keys c.index.result c.args.on ∙ self.manual;
       knobs = self.knobs;
-      room = self.room;
       exact = λ b q within. c.count_key.ensures b q within ∙ sym (ap (λ s. ways_to l.below l.wires l.panel s b q) held);
     }
 
@@ -24,4 +23,5 @@ pub returns : goal.returns
 returns c =
     let h = c.args.self.now.harness in
     let l = layout c.args.self.now in
-    λ i. record { reach = l.reach; below = l.below; wires = l.wires; panel = l.panel; register = held-put h.reaches h.keys c.args.row c.args.key c.args.on c.args.self.now.manual c.requires.place i }
+    let at = c.args.at in
+    λ i. record { reach = l.reach; below = l.below; wires = l.wires; panel = l.panel; register = held-put h.reaches.table h.keys at.row at.place c.index.result c.args.on c.args.self.now.manual c.requires.place c.index.ensures.value i }

@@ -1,4 +1,4 @@
--- The answers for `Wiring::turn`: the numbers are those of the panel with the knob turned.
+-- The numbers are those of the panel with the knob turned.
 use Rattle.std.proofs.Common.{sym, ap, ◌∙◌}
 use Rattle.std.proofs.lemmas.List.{length-set}
 use Rattle.board.specs.Wires.{ways_to}
@@ -11,12 +11,11 @@ invariant_of-self c =
     let h = c.args.self.now.harness in
     let l = layout c.args.self.now in
     let self = c.args.self.now in
-    let turned = standing-turned h.positions c.args.knob c.args.to self.knobs c.requires.few in
+    let turn = c.args.turn in
+    let turned = standing-turned h.positions turn.knob turn.to self.knobs turn.few in
     record {
-      slots = self.slots;
       manual = self.manual;
-      knobs = length-set h.positions c.args.knob c.args.to ∙ self.knobs;
-      room = self.room;
+      knobs = length-set h.positions turn.knob turn.to ∙ self.knobs;
       exact = λ b q within. c.count_knob.ensures b q within ∙ sym (ap (λ f. ways_to l.below l.wires f l.register b q) turned);
     }
 
@@ -24,4 +23,5 @@ pub returns : goal.returns
 returns c =
     let h = c.args.self.now.harness in
     let l = layout c.args.self.now in
-    λ i. record { reach = l.reach; below = l.below; wires = l.wires; panel = standing-turned h.positions c.args.knob c.args.to c.args.self.now.knobs c.requires.few i; register = l.register }
+    let turn = c.args.turn in
+    λ i. record { reach = l.reach; below = l.below; wires = l.wires; panel = standing-turned h.positions turn.knob turn.to c.args.self.now.knobs turn.few i; register = l.register }
