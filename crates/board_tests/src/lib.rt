@@ -40,16 +40,13 @@ pub fn turn(knob: usize, position: usize, changes: u32) -> Step {
 
 // Does each step, with a strobe after it: whether each is done and changes as many pipes as it says.
 fn plays<C: Chest>(chest: &mut C, steps: &[Step]) -> bool {
-    for step in steps {
+    steps.iter().all(|step| {
         let done = match step.act {
-            Act::Key(key, on) => chest.set(0, key, on).is_ok(),
-            Act::Knob(knob, position) => chest.turn(knob, position).is_ok(),
+            Act::Key(key, on) => chest.set(0, key, on),
+            Act::Knob(knob, position) => chest.turn(knob, position),
         };
-        if chest.strobe() != step.changes || !done {
-            return false;
-        }
-    }
-    true
+        chest.strobe() == step.changes && done.is_ok()
+    })
 }
 
 // A table with one row.
@@ -72,12 +69,9 @@ pub fn stop(shift: i16, knob: u16, position: u16) -> Wire {
     }
 }
 
-// The number of the fault, or 0 where the wire is fitted.
-fn fitted<C: Chest>(board: &mut RelayBoard<C>, wire: Wire) -> u8 {
-    match board.fit(wire) {
-        Ok(()) => 0,
-        Err(fault) => BoardFault::number(fault),
-    }
+// The number of the fault with which a wire is refused.
+fn refused<C: Chest>(board: &mut RelayBoard<C>, wire: Wire) -> Option<u8> {
+    board.fit(wire).map_err(BoardFault::number).err()
 }
 
 // A board of 61 keys over a chest, with those of the wires that it takes.
@@ -105,13 +99,10 @@ fn rank() -> MagnetChest {
 fn sounds(chest: &MagnetChest, pipes: &[usize]) -> bool {
     let mut bits = [0; 256];
     let _ = chest.write(&mut bits);
-    for place in 0..128 {
+    (0..128usize).all(|place| {
         let speaks = bits[place / 8] & (1 << (place % 8)) != 0;
-        if speaks != pipes.contains(&place) {
-            return false;
-        }
-    }
-    true
+        speaks == pipes.contains(&place)
+    })
 }
 
 // Whether a board with these wires plays the steps and leaves just these pipes speaking.
@@ -132,19 +123,14 @@ pub fn both_ways(wires: &[Wire], steps: &[Step], pipes: &[usize]) -> bool {
     alone(wires, steps, pipes) && stacked(wires, steps, pipes) && plays(&mut sending, steps)
 }
 
-// Whether a board with these wires that has played the steps answers to each wire that it is then offered
-// with the fault beside it, or takes it for 0.
-pub fn answers(wires: &[Wire], steps: &[Step], offers: &[(Wire, u8)]) -> bool {
+// Whether a board with these wires that has played the steps refuses each wire that it is then offered
+// with the fault beside it, or takes it where there is none.
+pub fn answers(wires: &[Wire], steps: &[Step], offers: &[(Wire, Option<u8>)]) -> bool {
     let mut board = single(rank(), wires);
-    if !plays(&mut board, steps) {
-        return false;
-    }
-    for (wire, number) in offers {
-        if fitted(&mut board, *wire) != *number {
-            return false;
-        }
-    }
-    true
+    plays(&mut board, steps)
+        && offers
+            .iter()
+            .all(|(wire, number)| refused(&mut board, *wire) == *number)
 }
 
 #[cfg(test)]
