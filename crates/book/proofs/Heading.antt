@@ -64,7 +64,7 @@ numbers_count (form.Keys row reach) = refl
 numbers_count (form.Rank row reach) = refl
 numbers_count (form.Knob knob steps home) = refl
 numbers_count (form.Piston piston lowest highest) = refl
-numbers_count (form.Wire w) = refl
+numbers_count (form.Wire board wire) = refl
 
 abbrev pub Clean : List ℕ → Type 0
 Clean l = AllByRecursion (λ b. allowed b ≡ true) l

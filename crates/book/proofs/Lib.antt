@@ -1,4 +1,3 @@
-pub mod Kept
 pub mod Forming
 pub mod Lining
 pub mod Course

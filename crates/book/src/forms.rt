@@ -5,6 +5,7 @@ ghost use Rattle.book.specs.Forms.{form_from, knob_from, natural, piston_from, r
 ghost use Rattle.book.specs.Heads.{head_of, takes};
 
 use crate::limits::{KNOBS, LEAST_STEPS, MOST_NUMBERS, MOST_PLACES, MOST_STEPS, PISTONS, ROWS};
+use fittings::Wire;
 
 // The word of a form.
 #[derive(Clone, Copy)]
@@ -16,23 +17,10 @@ pub enum Head {
     Wire,
 }
 
-#[derive(Clone, Copy)]
+#[derive(Clone, Copy, Debug, PartialEq)]
 pub enum Board {
     Coupler,
     Stop,
-}
-
-// A wire as the book writes it: which of its numbers a board takes is the board's to say.
-#[derive(Clone, Copy)]
-pub struct Wire {
-    pub board: Board,
-    pub from: u16,
-    pub lowest: u16,
-    pub highest: u16,
-    pub to: u16,
-    pub shift: i16,
-    pub knob: u16,
-    pub position: u16,
 }
 
 #[derive(Clone, Copy)]
@@ -41,7 +29,7 @@ pub enum Form {
     Rank { row: u8, reach: u8 },
     Knob { knob: u8, steps: u8, home: u8 },
     Piston { piston: u8, lowest: u8, highest: u8 },
-    Wire(Wire),
+    Wire { board: Board, wire: Wire },
 }
 
 fn is(word: &[u8], name: &[u8]) -> bool
@@ -124,7 +112,7 @@ fn piston_form(n: &[i16; MOST_NUMBERS]) -> Option<Form>
     })
 }
 
-fn read_wire(n: &[i16; MOST_NUMBERS]) -> Option<Wire>
+fn wire_form(n: &[i16; MOST_NUMBERS]) -> Option<Form>
     ensures { result ≡ wire_from n.now }
 {
     let board = bounded(n[0], 1, 2)?;
@@ -139,8 +127,7 @@ fn read_wire(n: &[i16; MOST_NUMBERS]) -> Option<Wire>
     } else {
         Board::Stop
     };
-    Some(Wire {
-        board,
+    let wire = Wire {
         from,
         lowest,
         highest,
@@ -148,7 +135,8 @@ fn read_wire(n: &[i16; MOST_NUMBERS]) -> Option<Wire>
         shift: n[5],
         knob,
         position,
-    })
+    };
+    Some(Form::Wire { board, wire })
 }
 
 impl Form {
@@ -169,7 +157,7 @@ impl Form {
             }
             Head::Knob => knob_form(n),
             Head::Piston => piston_form(n),
-            Head::Wire => Some(Form::Wire(read_wire(n)?)),
+            Head::Wire => wire_form(n),
         }
     }
 }

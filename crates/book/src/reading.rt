@@ -41,10 +41,7 @@ impl Book {
         let Some(form) = read_line(text, line)? else {
             return Ok(());
         };
-        if !self.put(form, line) {
-            return Err(BookFault::Repeat { line });
-        }
-        Ok(())
+        self.put(form, line).map_err(|_| BookFault::Repeat { line })
     }
 }
 
