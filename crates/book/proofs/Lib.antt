@@ -6,7 +6,6 @@ pub mod Spelling
 pub mod Heading
 pub mod Judging
 pub mod Writing
-pub mod Runs
 pub mod Said
 pub mod Counting
 pub mod Cutting

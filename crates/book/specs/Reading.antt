@@ -1,6 +1,6 @@
 -- What reading a book answers, for every list of bytes. Assumes nothing.
-use Rattle.std.specs.Prelude.{◌≡◌, ℕ, ◌+◌, Bool, cond, List, [], ◌∷◌, ◌++◌, length, Some, None, Ok, Err, Option, Result, ◌==◌, nat_le, nat_lt}
-use Rattle.std.specs.List.{prefix_len}
+use Rattle.std.specs.Prelude.{◌≡◌, ℕ, ◌+◌, Bool, cond, List, [], ◌∷◌, ◌++◌, length, Some, None, Ok, Err, Option, Result, ◌==◌, nat_lt}
+use Rattle.std.specs.List.{list_all}
 use Rattle.book.specs.declared.faults.BookFault.{BookFault}
 use Rattle.book.specs.declared.faults.BookFault.TheVariants as fault
 use Rattle.book.specs.declared.forms.Form.{Form}
@@ -15,7 +15,7 @@ use Rattle.book.specs.Pieces.{Shape, shape_of}
 
 -- every byte of the line is one that a book may hold
 abbrev pub clean : List ℕ → Bool
-clean l = nat_le (length l) (prefix_len allowed l)
+clean l = list_all allowed l
 
 -- the form of a word and its numbers, on line n
 abbrev pub in_range : ℕ → Option Form → Result Form BookFault
