@@ -1,5 +1,5 @@
 -- A form and its numbers give each other. Assumes nothing.
-use Rattle.std.proofs.Common.{◌≡◌, ℕ, zero, suc, ◌+◌, ◌-◌, ◌<◌, ◌≤◌, ◌&&◌, leb, List, [], ◌∷◌, length, drop, ℤ, pos, negsuc, Some, None, Option, sym, refl, ap, ◌∙◌, subst, ⊎_elim, arith}
+use Rattle.std.proofs.Common.{◌≡◌, ℕ, zero, suc, ◌+◌, ◌-◌, ◌<◌, ◌≤◌, ◌&&◌, leb, List, [], ◌∷◌, length, drop, ℤ, pos, negsuc, Some, None, Option, Result, sym, refl, ap, ◌∙◌, subst, ⊎_elim, arith}
 use Rattle.std.proofs.lemmas.List.{drop_all, drop_more}
 use Rattle.std.proofs.lemmas.Bool.{cond-true, cond-false, cases_Bool, and_parts, leb-true, cases_eq, eq-eqb, ne_eqb}
 use Rattle.std.proofs.lemmas.Bool.Decides.{nat_tests}
@@ -14,6 +14,10 @@ use Rattle.book.specs.Forms.{given, within, natural, row_from, knob_from, piston
 use Rattle.book.specs.Grammar.{head_in, numbers_in, board_number}
 use Rattle.book.specs.Heads.{takes}
 use Rattle.book.specs.Limits.{rows}
+use Rattle.book.specs.Reading.{formed, in_range}
+use Rattle.book.specs.declared.faults.BookFault.{BookFault}
+use Rattle.book.specs.declared.faults.BookFault.TheVariants as fault
+use Rattle.std.specs.Option.{ok_or}
 
 given-some : {X Y : Type 0} (o : Option X) (f : X → Option Y) (y : Y) → Some y ≡ given o f → (x : X) × (o ≡ Some x) × (Some y ≡ f x)
 given-some None f y e = absurd (let z : ◌≡◌ {A = ℕ} 0 1 = cc in omega arith)
@@ -155,3 +159,12 @@ form_sound head.Piston zs f long e =
 form_sound head.Wire zs f long e =
     let g = wire_read zs f e in
     record { head = g.0; numbers = g.1 ∙ sym (nths-drop 0 8 zs long); ranges = g.2 }
+
+-- the numbers are as many as the head takes
+pub formed_by : (n : ℕ) (h k : Head) (zs : List ℤ) (o p : Option Form) (r : Result Form BookFault) → h ≡ k → length zs ≡ takes k → o ≡ p → p ≡ form_from k zs → r ≡ ok_or o (fault.Range n) → r ≡ formed n h zs
+formed_by n h k zs o p r is count same by told =
+    told ∙ ap (λ q. ok_or q (fault.Range n)) (same ∙ by) ∙ ranged (form_from k zs) ∙ sym (cond-true _ _ _ (eq-eqb _ _ count)) ∙ ap (λ j. formed n j zs) (sym is)
+  where
+    ranged : (q : Option Form) → ok_or q (fault.Range n) ≡ in_range n q
+    ranged None = refl
+    ranged (Some f) = refl

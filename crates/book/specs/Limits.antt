@@ -29,9 +29,9 @@ pistons = 40
 abbrev pub most_wires : ℕ
 most_wires = 256
 
--- no form takes more numbers
-abbrev pub most_numbers : ℕ
-most_numbers = 8
+-- numbers of a line that are kept: no form takes as many
+abbrev pub most_kept : ℕ
+most_kept = 9
 
 -- 2 to 16 steps with a home below them
 abbrev pub Sound : ℕ → ℕ → Type 0

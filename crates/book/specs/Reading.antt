@@ -1,5 +1,5 @@
 -- What reading a book answers, for every list of bytes. Assumes nothing.
-use Rattle.std.specs.Prelude.{◌≡◌, ℕ, ◌+◌, Bool, cond, List, [], ◌∷◌, ◌++◌, length, Some, None, Ok, Err, Option, Result, ◌==◌, nat_lt}
+use Rattle.std.specs.Prelude.{◌≡◌, ℕ, ◌+◌, Bool, cond, List, [], ◌∷◌, ◌++◌, length, ℤ, Some, None, Ok, Err, Option, Result, ◌==◌, nat_lt}
 use Rattle.std.specs.List.{list_all}
 use Rattle.book.specs.declared.faults.BookFault.{BookFault}
 use Rattle.book.specs.declared.faults.BookFault.TheVariants as fault
@@ -22,9 +22,12 @@ abbrev pub in_range : ℕ → Option Form → Result Form BookFault
 in_range n None = Err (fault.Range n)
 in_range n (Some f) = Ok f
 
+abbrev pub formed : ℕ → Head → List ℤ → Result Form BookFault
+formed n h zs = cond (length zs == takes h) (in_range n (form_from h zs)) (Err (fault.Form n))
+
 abbrev pub counted : ℕ → Shape → Option Head → Result Form BookFault
 counted n s None = Err (fault.Form n)
-counted n s (Some h) = cond (length s.numbers == takes h) (in_range n (form_from h s.numbers)) (Err (fault.Form n))
+counted n s (Some h) = formed n h s.numbers
 
 abbrev pub form_of : ℕ → Shape → Result Form BookFault
 form_of n s = counted n s (head_of s.head)

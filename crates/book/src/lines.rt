@@ -16,10 +16,7 @@ fn read_form(parts: Parts) -> Result<Form, BookFault>
     let Some(head) = Head::of(parts.word) else {
         return Err(BookFault::Form { line });
     };
-    if parts.numbers.count != head.takes() {
-        return Err(BookFault::Form { line });
-    }
-    Form::new(head, &parts.numbers.values).ok_or(BookFault::Range { line })
+    Form::new(head, &parts.numbers, line)
 }
 
 pub fn read_line(text: &[u8], line: usize) -> Result<Option<Form>, BookFault>
