@@ -1,39 +1,38 @@
 -- A line's numbers, read one after another. Assumes nothing.
-use Rattle.std.proofs.Common.{◌≡◌, ℕ, ◌+◌, ◌<◌, ◌≤◌, false, eqb, List, [], ◌∷◌, ◌++◌, length, get_or, set, ℤ, pos, Some, None, Option, sym, refl, ap, ◌∙◌, subst, ⊎_elim, arith}
-use Rattle.std.proofs.lemmas.List.{append-nil, append_assoc, length_push, get_or_push, get_or_append_left, length-append, get_or-set_same, get_or-set_other}
-use Rattle.std.proofs.lemmas.Bool.{cond-false, cases_eq, cases_lt}
+use Rattle.std.proofs.Common.{◌≡◌, ℕ, ◌<◌, false, eqb, List, [], ◌∷◌, ◌++◌, length, ℤ, Some, None, Ok, Err, Option, Result, sym, refl, ap, ◌∙◌, subst, ⊎_elim, arith}
+use Rattle.std.proofs.lemmas.List.{append-nil, append_assoc, length_push, take_all, take-append-le, length-take-le}
+use Rattle.std.proofs.lemmas.Bool.{cond-false, cases_lt}
 use Rattle.std.proofs.lemmas.Bool.Decides.{nat_tests}
 use Rattle.std.specs.Option.{option_map}
-use Rattle.book.specs.declared.shapes.Numbers.{Numbers}
+use Rattle.std.specs.Result.{IsOk, OnOk, OnErr}
+use Rattle.arrayvec.specs.ArrayVec.{ArrayVec}
 use Rattle.book.specs.declared.shapes.Parts.{Parts}
 use Rattle.book.proofs.Cutting.{some-pieces}
 use Rattle.book.specs.Bytes.{space, opening, closing}
 use Rattle.book.specs.Numerals.{numeral}
 use Rattle.book.specs.Pieces.{letters, figures, Piece, run, mark, pieces, numbers_of, with_number, before, with_head, shape_from, shape_of}
 use Rattle.book.specs.Shapes.{Kept, Keeps, Shapes}
-use Rattle.book.specs.Limits.{most_numbers}
+use Rattle.book.specs.Limits.{most_kept}
 use Rattle.book.specs.Tokens.{token_first}
 
 -- the numbers so far, before those that the rest has
-pub record Sofar (n : Numbers) (bs rest : List ℕ) : Type 0 where
+pub record Sofar (n : ArrayVec ℤ) (bs rest : List ℕ) : Type 0 where
   pub zs : List ℤ
   pub kept : Kept n zs
   pub left : numbers_of (pieces bs) ≡ option_map (λ ys. zs ++ ys) (numbers_of (pieces rest))
-  pub room : n.count + length rest ≤ length bs
 
-pub start : (n : Numbers) (bs : List ℕ) → Kept n [] → Sofar n bs bs
+pub start : (n : ArrayVec ℤ) (bs : List ℕ) → Kept n [] → Sofar n bs bs
 start n bs k =
     record {
       zs = [];
       kept = k;
       left = elim (numbers_of (pieces bs)) as (λ o. o ≡ option_map (λ ys. ys) o) [ None ↦ refl | Some ys ↦ refl ];
-      room = omega (arith, k.count);
     }
 
-pub stop : (n : Numbers) (bs rest : List ℕ) → Sofar n bs rest → numbers_of (pieces rest) ≡ None → Keeps None (numbers_of (pieces bs))
+pub stop : (n : ArrayVec ℤ) (bs rest : List ℕ) → Sofar n bs rest → numbers_of (pieces rest) ≡ None → Keeps None (numbers_of (pieces bs))
 stop n bs rest s none = subst (Keeps None) (sym (s.left ∙ ap (option_map (λ ys. s.zs ++ ys)) none)) tt
 
-pub finish : (n : Numbers) (bs rest : List ℕ) → Sofar n bs rest → numbers_of (pieces rest) ≡ Some [] → Keeps (Some n) (numbers_of (pieces bs))
+pub finish : (n : ArrayVec ℤ) (bs rest : List ℕ) → Sofar n bs rest → numbers_of (pieces rest) ≡ Some [] → Keeps (Some n) (numbers_of (pieces bs))
 finish n bs rest s end =
     subst (Keeps (Some n)) (sym (s.left ∙ ap (option_map (λ ys. s.zs ++ ys)) end ∙ ap Some (append-nil s.zs))) s.kept
 
@@ -41,15 +40,14 @@ one_number : (zs : List ℤ) (z : ℤ) (o : Option (List ℤ)) → option_map (�
 one_number zs z None = refl
 one_number zs z (Some ys) = ap Some (sym (append_assoc zs (z ∷ []) ys))
 
-pub go_on : (n m : Numbers) (bs rest after : List ℕ) (d : List ℕ) (z y : ℤ) → (s : Sofar n bs rest) → pieces rest ≡ mark space ∷ (run figures d ∷ pieces after) → rest ≡ space ∷ (d ++ after) → Some z ≡ numeral d → y ≡ z → Kept m (s.zs ++ y ∷ []) → Sofar m bs after
-go_on n m bs rest after d z y s cut text is same k =
+pub go_on : (n m : ArrayVec ℤ) (bs rest after : List ℕ) (d : List ℕ) (z : ℤ) → (s : Sofar n bs rest) → pieces rest ≡ mark space ∷ (run figures d ∷ pieces after) → Some z ≡ numeral d → Kept m (s.zs ++ z ∷ []) → Sofar m bs after
+go_on n m bs rest after d z s cut is k =
     record {
       zs = s.zs ++ z ∷ [];
-      kept = subst (λ x. Kept m (s.zs ++ x ∷ [])) same k;
+      kept = k;
       left =
           s.left ∙ ap (λ ps. option_map (λ ys. s.zs ++ ys) (numbers_of ps)) cut ∙
           ap (λ o. option_map (λ ys. s.zs ++ ys) (with_number o (numbers_of (pieces after)))) (sym is) ∙ one_number s.zs z _;
-      room = omega (arith, s.room, s.kept.count, k.count, length_push s.zs y, ap length text, length-append d after);
     }
 
 -- no numbers follow where no token stands, nor after a bracket or a word in the wrong place
@@ -82,27 +80,26 @@ pub none-after_close : (bs : List ℕ) → (length bs ≡ 0 → ⊥) → numbers
 none-after_close [] some = absurd (some refl)
 none-after_close (b ∷ bs) some = none-past_close (before b (pieces bs)) (some-pieces b (pieces bs))
 
--- one number more is kept; past the eighth only the count goes on
-pub kept_more : (n m : Numbers) (z : ℤ) (zs : List ℤ) → length n.values ≡ most_numbers → m.count ≡ n.count + 1 → (n.count < most_numbers → m.values ≡ set n.values n.count z) → (most_numbers ≤ n.count → m.values ≡ n.values) → Kept n zs → Kept m (zs ++ z ∷ [])
-kept_more n m z zs long count inside past k =
-    record {
-      count = omega (arith, k.count, length_push zs z);
-      values = λ i few in'.
-          ⊎_elim
-          (λ (e : i ≡ length zs).
-          let here : n.count ≡ i = omega (arith, k.count) in
-          ap (λ l. get_or l i (pos 0)) (inside (omega arith)) ∙ ap (λ j. get_or (set n.values j z) i (pos 0)) here ∙ get_or-set_same n.values i z (pos 0) (omega arith) ∙ sym (get_or_push zs z (pos 0) i (sym e)))
-          (λ (e : i ≡ length zs → ⊥).
-          let old : i < length zs = omega (arith, length_push zs z) in
-          let same : get_or m.values i (pos 0) ≡ get_or n.values i (pos 0) =
-          ⊎_elim
-          (λ low. ap (λ l. get_or l i (pos 0)) (inside low) ∙ get_or-set_other n.values n.count i z (pos 0) (omega (arith, k.count)))
-          (λ high. ap (λ l. get_or l i (pos 0)) (past high))
-          (cases_lt n.count most_numbers)
-          in
-          same ∙ k.values i few old ∙ sym (get_or_append_left zs (z ∷ []) (pos 0) i old))
-          (cases_eq i (length zs));
-    }
+kept_past : (n : ArrayVec ℤ) (z : ℤ) (zs : List ℤ) → length n.items ≡ most_kept → Kept n zs → Kept n (zs ++ z ∷ [])
+kept_past n z zs full k =
+    ⊎_elim
+    (λ few. absurd (omega (arith, ap length (k.items ∙ take_all most_kept zs (omega arith)))))
+    (λ many. record { items = k.items ∙ sym (take-append-le most_kept zs (z ∷ []) many) })
+    (cases_lt (length zs) most_kept)
+
+kept_next : (n m : ArrayVec ℤ) (z : ℤ) (zs : List ℤ) → length n.items < most_kept → m.items ≡ n.items ++ z ∷ [] → Kept n zs → Kept m (zs ++ z ∷ [])
+kept_next n m z zs room more k =
+    ⊎_elim
+    (λ few.
+    let all = k.items ∙ take_all most_kept zs (omega arith) in
+    record { items = more ∙ ap (λ l. l ++ z ∷ []) all ∙ sym (take_all most_kept (zs ++ z ∷ []) (omega (arith, length_push zs z))) })
+    (λ many. absurd (omega (arith, ap length k.items, length-take-le most_kept zs many)))
+    (cases_lt (length zs) most_kept)
+
+-- one number more is kept, until there are nine
+pub kept_more : {E : Type 0} (n m : ArrayVec ℤ) (y z : ℤ) (zs : List ℤ) (r : Result (Unit {0}) E) → (IsOk r → length n.items < most_kept) → OnOk r (m.items ≡ n.items ++ y ∷ []) → OnErr r (m ≡ n) → OnErr r (length n.items ≡ most_kept) → y ≡ z → Kept n zs → Kept m (zs ++ z ∷ [])
+kept_more n m y z zs (Ok u) room more same full is k = kept_next n m z zs (room refl) (more ∙ ap (λ x. n.items ++ x ∷ []) is) k
+kept_more n m y z zs (Err e) room more same full is k = subst (λ v. Kept v (zs ++ z ∷ [])) (sym same) (kept_past n z zs full k)
 
 with_head-none : (line : ℕ) (w : List ℕ) (o : Option (List ℤ)) → Keeps None o → Shapes line None (with_head w o)
 with_head-none line w None k = tt

@@ -1,18 +1,14 @@
 -- A book read line by line. Assumes nothing.
 use Rattle.std.proofs.Common.{◌≡◌, ℕ, suc, ◌+◌, ◌<◌, ◌≤◌, Bool, true, false, not, eqb, ltb, List, [], ◌∷◌, length, take, drop, Some, None, Ok, Err, Result, sym, refl, ap, ◌∙◌, subst, ⊎_elim, add-one, one-add, arith}
 use Rattle.std.specs.List.{prefix_len}
-use Rattle.std.proofs.lemmas.List.{length-drop, drop-drop}
+use Rattle.std.proofs.lemmas.List.{length-drop}
 use Rattle.std.proofs.lemmas.Bool.{cond-true, cond-false, cases_Bool, le-ltb, ltb-true, ltb-false}
 use Rattle.book.specs.declared.faults.BookFault.{BookFault}
 use Rattle.book.specs.declared.record.Book.{Book}
-use Rattle.book.specs.Bytes.{line_end, first_outside}
+use Rattle.book.specs.Bytes.{line_end, inside, first_outside}
 use Rattle.book.specs.Entries.{Entry, Holds}
 use Rattle.book.specs.Limits.{most_bytes}
 use Rattle.book.specs.Reading.{onto_first, cut, and_then, with_line, at_end, lines_from, read_of, Answers, Fills}
-
--- a byte that does not end a line
-abbrev pub inside : ℕ → Bool
-inside b = not (eqb b line_end)
 
 pub cut-some : (bs : List ℕ) → cut bs ≡ [] → ⊥
 cut-some [] e = let z : ◌≡◌ {A = ℕ} 0 1 = cc in omega arith
@@ -91,29 +87,24 @@ refused f b (Ok fs) h = absurd h
 refused f b (Err e) h = ap Err (sym h)
 
 -- line n has its end at k
-module _ (b c : Book) (text rest this after next : List ℕ) (n k : ℕ) (r : Reading b text rest n) (ended : Some k ≡ first_outside inside rest) (front : this ≡ take k rest) (back : after ≡ drop k rest) (on : next ≡ drop 1 after) where
-  past : drop (suc k) rest ≡ next
-  past = sym (on ∙ ap (drop 1) back ∙ drop-drop 1 k rest ∙ ap (λ j. drop j rest) (add-one k))
-
-  one_line : lines_from [] 1 (cut text) ≡ and_then (with_line r.es n this) (λ fs. lines_from fs (n + 1) (cut next))
+module _ (b c : Book) (text rest next : List ℕ) (n k : ℕ) (r : Reading b text rest n) (ended : Some k ≡ first_outside inside rest) (on : next ≡ drop (k + 1) rest) where
+  one_line : lines_from [] 1 (cut text) ≡ and_then (with_line r.es n (take k rest)) (λ fs. lines_from fs (n + 1) (cut next))
   one_line =
       let at = some-outside inside rest k ended in
-      let off : cut rest ≡ this ∷ cut next =
-      cut_at rest (omega arith) ∙ (λ i. take (sym at.0 i) rest ∷ cut (drop (suc (sym at.0 i)) rest)) ∙ (λ i. sym front i ∷ cut (past i))
+      let off : cut rest ≡ take k rest ∷ cut next =
+      cut_at rest (omega arith) ∙ (λ i. take (sym at.0 i) rest ∷ cut (drop (suc (sym at.0 i)) rest)) ∙ ap (λ l. take k rest ∷ cut l) (sym (on ∙ ap (λ j. drop j rest) (add-one k)))
       in
-      r.left ∙ ap (lines_from r.es n) off ∙ more_lines r.es n this (cut next) (cut-some next)
+      r.left ∙ ap (lines_from r.es n) off ∙ more_lines r.es n (take k rest) (cut next) (cut-some next)
 
   pub shorter : length next < length rest
-  shorter =
-      let at = some-outside inside rest k ended in
-      omega (arith, ap length past, length-drop (suc k) rest, at.1)
+  shorter = let at = some-outside inside rest k ended in omega (arith, ap length on, length-drop (k + 1) rest, at.1)
 
-  pub next-line : (u : Unit {0}) → Fills (Ok u) c (with_line r.es n this) → Reading c text next (n + 1)
+  pub next-line : (u : Unit {0}) → Fills (Ok u) c (with_line r.es n (take k rest)) → Reading c text next (n + 1)
   next-line u h =
       let g = filled u c _ h in
       record { es = g.0; holds = g.2; left = one_line ∙ ap (λ x. and_then x (λ fs. lines_from fs (n + 1) (cut next))) g.1; room = omega (arith, shorter, r.room) }
 
-  pub bad_line : (f : BookFault) → Fills (Err f) c (with_line r.es n this) → lines_from [] 1 (cut text) ≡ Err f
+  pub bad_line : (f : BookFault) → Fills (Err f) c (with_line r.es n (take k rest)) → lines_from [] 1 (cut text) ≡ Err f
   bad_line f h = one_line ∙ ap (λ x. and_then x (λ fs. lines_from fs (n + 1) (cut next))) (refused f c _ h)
 
 -- a book that is not too long is its lines

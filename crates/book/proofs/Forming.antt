@@ -1,11 +1,10 @@
 -- A form and its numbers give each other. Assumes nothing.
-use Rattle.std.proofs.Common.{◌≡◌, ℕ, zero, suc, ◌+◌, ◌-◌, ◌<◌, ◌≤◌, ◌&&◌, leb, List, [], ◌∷◌, length, drop, ℤ, pos, negsuc, Some, None, Option, sym, refl, ap, ◌∙◌, subst, ⊎_elim, arith}
+use Rattle.std.proofs.Common.{◌≡◌, ℕ, zero, suc, ◌+◌, ◌-◌, ◌<◌, ◌≤◌, ◌&&◌, leb, List, [], ◌∷◌, length, drop, ℤ, pos, negsuc, Some, None, Option, Result, sym, refl, ap, ◌∙◌, subst, ⊎_elim, arith}
 use Rattle.std.proofs.lemmas.List.{drop_all, drop_more}
 use Rattle.std.proofs.lemmas.Bool.{cond-true, cond-false, cases_Bool, and_parts, leb-true, cases_eq, eq-eqb, ne_eqb}
 use Rattle.std.proofs.lemmas.Bool.Decides.{nat_tests}
 use Rattle.book.specs.declared.forms.Board.{Board}
 use Rattle.book.specs.declared.forms.Board.TheVariants.{Coupler, Stop}
-use Rattle.book.specs.declared.forms.Wire.{Wire}
 use Rattle.book.specs.declared.forms.Form.{Form}
 use Rattle.book.specs.declared.forms.Form.TheVariants as form
 use Rattle.book.specs.declared.forms.Head.{Head}
@@ -15,6 +14,10 @@ use Rattle.book.specs.Forms.{given, within, natural, row_from, knob_from, piston
 use Rattle.book.specs.Grammar.{head_in, numbers_in, board_number}
 use Rattle.book.specs.Heads.{takes}
 use Rattle.book.specs.Limits.{rows}
+use Rattle.book.specs.Reading.{formed, in_range}
+use Rattle.book.specs.declared.faults.BookFault.{BookFault}
+use Rattle.book.specs.declared.faults.BookFault.TheVariants as fault
+use Rattle.std.specs.Option.{ok_or}
 
 given-some : {X Y : Type 0} (o : Option X) (f : X → Option Y) (y : Y) → Some y ≡ given o f → (x : X) × (o ≡ Some x) × (Some y ≡ f x)
 given-some None f y e = absurd (let z : ◌≡◌ {A = ℕ} 0 1 = cc in omega arith)
@@ -44,7 +47,7 @@ pub record Read (h : Head) (zs : List ℤ) (f : Form) : Type 0 where
 within_in : (n low high : ℕ) → low ≤ n → n ≤ high → within (pos n) low high ≡ Some n
 within_in n low high p q = grind (arith, nat_tests)
 
-wire_complete : (b : Board) (from lowest highest to : ℕ) (shift : ℤ) (knob position : ℕ) → wire_from (pos (board_number b) ∷ (pos from ∷ (pos lowest ∷ (pos highest ∷ (pos to ∷ (shift ∷ (pos knob ∷ (pos position ∷ [])))))))) ≡ Some (record { board = b; from = from; lowest = lowest; highest = highest; to = to; shift = shift; knob = knob; position = position })
+wire_complete : (b : Board) (from lowest highest to : ℕ) (shift : ℤ) (knob position : ℕ) → wire_from (pos (board_number b) ∷ (pos from ∷ (pos lowest ∷ (pos highest ∷ (pos to ∷ (shift ∷ (pos knob ∷ (pos position ∷ [])))))))) ≡ Some (form.Wire b (record { from = from; lowest = lowest; highest = highest; to = to; shift = shift; knob = knob; position = position }))
 wire_complete Coupler from lowest highest to shift knob position = refl
 wire_complete Stop from lowest highest to shift knob position = refl
 
@@ -53,8 +56,7 @@ form_complete (form.Keys row reach) r = grind (arith, nat_tests)
 form_complete (form.Rank row reach) r = grind (arith, nat_tests)
 form_complete (form.Knob knob steps home) r = grind (arith, nat_tests)
 form_complete (form.Piston piston lowest highest) r = grind (arith, nat_tests)
-form_complete (form.Wire w) r =
-    ap (λ o. given o (λ v. Some (form.Wire v))) (wire_complete w.board w.from w.lowest w.highest w.to w.shift w.knob w.position)
+form_complete (form.Wire b w) r = wire_complete b w.from w.lowest w.highest w.to w.shift w.knob w.position
 
 some_same : {X : Type 0} (x y : X) → Some x ≡ Some y → x ≡ y
 some_same x y e = cc
@@ -84,7 +86,7 @@ knob_read zs f e =
     let x = within-some (nth zs 0) 0 63 p.0 p.1 in
     let y = within-some (nth zs 1) 2 16 q.0 q.1 in
     let z = within-some (nth zs 2) 0 (q.0 - 1) r.0 r.1 in
-    (p.0, q.0, r.0, x.0, y.0, z.0, some_same _ _ r.2, (omega arith, y.1, y.2, omega arith))
+    (p.0, q.0, r.0, x.0, y.0, z.0, some_same _ _ r.2, (omega arith, (y.1, y.2, omega arith)))
 
 piston_read : (zs : List ℤ) (f : Form) → Some f ≡ piston_from zs → (p : ℕ) × (a : ℕ) × (b : ℕ) × (nth zs 0 ≡ pos p) × (nth zs 1 ≡ pos a) × (nth zs 2 ≡ pos b) × (f ≡ form.Piston p a b) × InRange (form.Piston p a b)
 piston_read zs f e =
@@ -94,7 +96,7 @@ piston_read zs f e =
     let x = within-some (nth zs 0) 0 39 p.0 p.1 in
     let y = within-some (nth zs 2) 0 63 q.0 q.1 in
     let z = within-some (nth zs 1) 0 q.0 r.0 r.1 in
-    (p.0, r.0, q.0, x.0, z.0, y.0, some_same _ _ r.2, (omega arith, z.2, omega arith))
+    (p.0, r.0, q.0, x.0, z.0, y.0, some_same _ _ r.2, (omega arith, (z.2, omega arith)))
 
 board_back : (n : ℕ) → 1 ≤ n → n ≤ 2 → board_number (board_of n) ≡ n
 board_back n p q =
@@ -103,7 +105,7 @@ board_back n p q =
     (λ (e : n ≡ 1 → ⊥). ap board_number (cond-false _ _ _ (ne_eqb n 1 e)) ∙ (let two : 2 ≡ n = omega arith in two))
     (cases_eq n 1)
 
-wire_read : (zs : List ℤ) (w : Wire) → Some w ≡ wire_from zs → numbers_in (form.Wire w) ≡ nths 0 8 zs
+wire_read : (zs : List ℤ) (w : Form) → Some w ≡ wire_from zs → (head_in w ≡ head.Wire) × (numbers_in w ≡ nths 0 8 zs) × InRange w
 wire_read zs w e =
     let b = given-some (within (nth zs 0) 1 2) _ w e in
     let f = given-some (natural (nth zs 1)) _ w b.2 in
@@ -113,14 +115,17 @@ wire_read zs w e =
     let k = given-some (natural (nth zs 6)) _ w t.2 in
     let p = given-some (natural (nth zs 7)) _ w k.2 in
     let board = within-some (nth zs 0) 1 2 b.0 b.1 in
-    let is = some_same w _ p.2 in
-    ap (λ v. numbers_in (form.Wire v)) is ∙
-    (λ i.
-    (ap pos (board_back b.0 board.1 board.2) ∙ sym board.0) i ∷
-    (sym (natural-some _ _ f.1) i ∷
-    (sym (natural-some _ _ l.1) i ∷
-    (sym (natural-some _ _ h.1) i ∷
-    (sym (natural-some _ _ t.1) i ∷ (nth zs 5 ∷ (sym (natural-some _ _ k.1) i ∷ (sym (natural-some _ _ p.1) i ∷ []))))))))
+    let is = some_same w _ p.2 in (
+      ap head_in is,
+      ap numbers_in is ∙
+          (λ i.
+          (ap pos (board_back b.0 board.1 board.2) ∙ sym board.0) i ∷
+          (sym (natural-some _ _ f.1) i ∷
+          (sym (natural-some _ _ l.1) i ∷
+          (sym (natural-some _ _ h.1) i ∷
+          (sym (natural-some _ _ t.1) i ∷ (nth zs 5 ∷ (sym (natural-some _ _ k.1) i ∷ (sym (natural-some _ _ p.1) i ∷ [])))))))),
+      subst InRange (sym is) tt,
+    )
 
 pub form_sound : (h : Head) (zs : List ℤ) (f : Form) → length zs ≡ takes h → Some f ≡ form_from h zs → Read h zs f
 form_sound head.Keys zs f long e =
@@ -152,10 +157,14 @@ form_sound head.Piston zs f long e =
       ranges = subst InRange (sym g.6) g.7;
     }
 form_sound head.Wire zs f long e =
-    let g = given-some (wire_from zs) _ f e in
-    let is = some_same f (form.Wire g.0) g.2 in
-    record {
-      head = ap head_in is;
-      numbers = ap numbers_in is ∙ wire_read zs g.0 (sym g.1) ∙ sym (nths-drop 0 8 zs long);
-      ranges = subst InRange (sym is) tt;
-    }
+    let g = wire_read zs f e in
+    record { head = g.0; numbers = g.1 ∙ sym (nths-drop 0 8 zs long); ranges = g.2 }
+
+-- the numbers are as many as the head takes
+pub formed_by : (n : ℕ) (h k : Head) (zs : List ℤ) (o p : Option Form) (r : Result Form BookFault) → h ≡ k → length zs ≡ takes k → o ≡ p → p ≡ form_from k zs → r ≡ ok_or o (fault.Range n) → r ≡ formed n h zs
+formed_by n h k zs o p r is count same by told =
+    told ∙ ap (λ q. ok_or q (fault.Range n)) (same ∙ by) ∙ ranged (form_from k zs) ∙ sym (cond-true _ _ _ (eq-eqb _ _ count)) ∙ ap (λ j. formed n j zs) (sym is)
+  where
+    ranged : (q : Option Form) → ok_or q (fault.Range n) ≡ in_range n q
+    ranged None = refl
+    ranged (Some f) = refl

@@ -1,12 +1,11 @@
 -- The words of the forms, and a line that is a form's text. Assumes nothing.
-use Rattle.std.proofs.Common.{◌≡◌, ℕ, suc, ◌<◌, ◌≤◌, Bool, true, false, cond, ◌⊎◌, List, [], ◌∷◌, length, get_or, ℤ, Some, Ok, Option, sym, refl, ap, ◌∙◌, subst, inl, inr, ⊎_elim, one-add, arith}
-use Rattle.std.specs.List.{flat_map, prefix_len, AllByRecursion}
+use Rattle.std.proofs.Common.{◌≡◌, ℕ, suc, ◌<◌, true, false, ◌&&◌, cond, ◌⊎◌, List, [], ◌∷◌, length, get_or, ℤ, Some, Ok, Option, sym, refl, ap, ◌∙◌, subst, inl, inr, ⊎_elim, arith}
+use Rattle.std.specs.List.{flat_map, AllByRecursion}
 use Rattle.std.specs.Fmt.{signed_decimal}
 use Rattle.std.specs.Str.{bytes_eq}
-use Rattle.std.proofs.lemmas.List.{append-nil}
 use Rattle.std.proofs.ByRecursion.{All-append, All-weaker}
 use Rattle.std.proofs.lemmas.Slice.Eq.{bytes_eq-Decides}
-use Rattle.std.proofs.lemmas.Bool.{cond-true, cond-false, cases_Bool, eq-eqb, ne_eqb, leb-true, leb-false, le-leb}
+use Rattle.std.proofs.lemmas.Bool.{cond-true, cond-false, cases_Bool, and_parts, eq-eqb, ne_eqb, true≢false}
 use Rattle.std.proofs.lemmas.Bool.Decides.{nat_tests}
 use Rattle.book.specs.declared.forms.Form.{Form}
 use Rattle.book.specs.declared.forms.Form.TheVariants as form
@@ -21,7 +20,7 @@ use Rattle.book.specs.Reading.{clean, in_range, counted, some_form, shaped, line
 use Rattle.book.proofs.Clash.{some-none, some_same}
 use Rattle.book.proofs.Forming.{form_sound, form_complete}
 use Rattle.book.proofs.Lining.{line_formed}
-use Rattle.book.proofs.Spelling.{shape_sound, shape_complete, leading_all}
+use Rattle.book.proofs.Spelling.{shape_sound, shape_complete}
 use Rattle.book.proofs.Writing.{signed_numeric}
 
 head_step : (w : List ℕ) (k h : Head) (rest : Option Head) → cond (bytes_eq w (spelling k)) (Some k) rest ≡ Some h → (w ≡ spelling h) ⊎ (rest ≡ Some h)
@@ -64,7 +63,7 @@ numbers_count (form.Keys row reach) = refl
 numbers_count (form.Rank row reach) = refl
 numbers_count (form.Knob knob steps home) = refl
 numbers_count (form.Piston piston lowest highest) = refl
-numbers_count (form.Wire w) = refl
+numbers_count (form.Wire board wire) = refl
 
 abbrev pub Clean : List ℕ → Type 0
 Clean l = AllByRecursion (λ b. allowed b ≡ true) l
@@ -84,38 +83,21 @@ pub written-clean : (w : List ℕ) (zs : List ℤ) → Word w → AllByRecursion
 written-clean w zs word short =
     (refl, All-append _ w _ (All-weaker _ _ letter-allowed w word.1) (All-append _ (flat_map number_text zs) (closing ∷ []) (numbers_clean zs short) (refl, tt)))
 
-leading_yes : (p : ℕ → Bool) (x : ℕ) (xs : List ℕ) → p x ≡ true → prefix_len p (x ∷ xs) ≡ suc (prefix_len p xs)
-leading_yes p x xs d = cond-true _ _ _ d ∙ one-add (prefix_len p xs)
-
-leading_no : (p : ℕ → Bool) (x : ℕ) (xs : List ℕ) → p x ≡ false → prefix_len p (x ∷ xs) ≡ 0
-leading_no p x xs d = cond-false _ _ _ d
-
-leading_sound : (p : ℕ → Bool) (xs : List ℕ) → length xs ≤ prefix_len p xs → AllByRecursion (λ b. p b ≡ true) xs
-leading_sound p [] h = tt
-leading_sound p (x ∷ xs) h =
-    ⊎_elim
-    (λ d. (d, leading_sound p xs (omega (arith, leading_yes p x xs d))))
-    (λ d. absurd (omega (arith, leading_no p x xs d)))
-    (cases_Bool (p x))
-
-leading_fails : (p : ℕ → Bool) (xs : List ℕ) → prefix_len p xs < length xs → p (get_or xs (prefix_len p xs) 0) ≡ false
-leading_fails p [] h = absurd (omega arith)
-leading_fails p (x ∷ xs) h =
-    ⊎_elim
-    (λ d. ap (λ k. p (get_or (x ∷ xs) k 0)) (leading_yes p x xs d) ∙ leading_fails p xs (omega (arith, leading_yes p x xs d)))
-    (λ d. ap (λ k. p (get_or (x ∷ xs) k 0)) (leading_no p x xs d) ∙ d)
-    (cases_Bool (p x))
-
 pub clean-complete : (l : List ℕ) → Clean l → clean l ≡ true
-clean-complete l all =
-    let all_of : prefix_len allowed l ≡ length l = ap (prefix_len allowed) (sym (append-nil l)) ∙ leading_all allowed l [] all refl in
-    le-leb (length l) (prefix_len allowed l) (omega arith)
+clean-complete [] all = refl
+clean-complete (b ∷ l) all = ap (λ t. t && clean l) all.0 ∙ clean-complete l all.1
 
 pub clean-sound : (l : List ℕ) → clean l ≡ true → Clean l
-clean-sound l h = leading_sound allowed l (leb-true _ _ h)
+clean-sound [] h = tt
+clean-sound (b ∷ l) h = let p = and_parts _ _ h in (p.0, clean-sound l p.1)
 
 pub clean-bad : (l : List ℕ) → clean l ≡ false → (k : ℕ) × (k < length l) × (allowed (get_or l k 0) ≡ false)
-clean-bad l h = let short = leb-false (length l) (prefix_len allowed l) h in (prefix_len allowed l, short, leading_fails allowed l short)
+clean-bad [] h = absurd (true≢false h)
+clean-bad (b ∷ l) h =
+    ⊎_elim
+    (λ d. let r = clean-bad l (sym (ap (λ t. t && clean l) d) ∙ h) in (suc r.0, omega (arith, r.1), r.2))
+    (λ d. (0, omega arith, d))
+    (cases_Bool (allowed b))
 
 -- a form that a line gives is the form that it spells
 pub record FormLine (l : List ℕ) (f : Form) : Type 0 where

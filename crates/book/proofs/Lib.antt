@@ -1,4 +1,3 @@
-pub mod Kept
 pub mod Forming
 pub mod Lining
 pub mod Course
@@ -7,7 +6,6 @@ pub mod Spelling
 pub mod Heading
 pub mod Judging
 pub mod Writing
-pub mod Runs
 pub mod Said
 pub mod Counting
 pub mod Cutting

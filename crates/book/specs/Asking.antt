@@ -1,19 +1,18 @@
 -- What a book's record answers. Assumes nothing.
-use Rattle.std.specs.Prelude.{ℕ, Bool, true, false, cond, None, Option, nat_lt}
+use Rattle.std.specs.Prelude.{ℕ, Bool, true, false, cond, List, None, Option, nat_lt}
 use Rattle.std.specs.Option.{unwrap_or}
 use Rattle.book.specs.declared.forms.Board.{Board}
 use Rattle.book.specs.declared.forms.Board.TheVariants.{Coupler, Stop}
 use Rattle.book.specs.declared.record.Book.{Book}
 use Rattle.book.specs.declared.record.BookWire.{BookWire}
-use Rattle.book.specs.declared.tables.Knob.{Knob}
-use Rattle.book.specs.declared.tables.Rows.{Rows}
-use Rattle.book.specs.declared.tables.Scope.{Scope}
 use Rattle.book.specs.Limits.{rows, knobs, pistons}
-use Rattle.book.specs.Tables.{row_at, knob_at, scope_at}
+use Rattle.book.specs.Tables.{place_at}
+use Rattle.fittings.specs.declared.Knob.{Knob}
+use Rattle.fittings.specs.declared.Scope.{Scope}
 
 -- the reach of a row: 0 where the book does not name it
-abbrev pub reach_in : Rows → ℕ → ℕ
-reach_in t r = cond (nat_lt r rows) (unwrap_or (row_at t r) 0) 0
+abbrev pub reach_in : List (Option ℕ) → ℕ → ℕ
+reach_in t r = cond (nat_lt r rows) (unwrap_or (place_at t r) 0) 0
 
 abbrev pub keys_in : Book → ℕ → ℕ
 keys_in b r = reach_in b.divisions r
@@ -22,10 +21,10 @@ abbrev pub pipes_in : Book → ℕ → ℕ
 pipes_in b r = reach_in b.ranks r
 
 abbrev pub knob_in : Book → ℕ → Option Knob
-knob_in b k = cond (nat_lt k knobs) (knob_at b.knobs k) None
+knob_in b k = cond (nat_lt k knobs) (place_at b.knobs k) None
 
 abbrev pub scope_in : Book → ℕ → Option Scope
-scope_in b p = cond (nat_lt p pistons) (scope_at b.pistons p) None
+scope_in b p = cond (nat_lt p pistons) (place_at b.pistons p) None
 
 abbrev pub same_board : Board → Board → Bool
 same_board Coupler Coupler = true
@@ -34,4 +33,4 @@ same_board Stop Coupler = false
 same_board Stop Stop = true
 
 abbrev pub on_board : Board → BookWire → Bool
-on_board b w = same_board b w.wire.board
+on_board b w = same_board b w.board

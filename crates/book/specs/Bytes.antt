@@ -1,8 +1,6 @@
 -- The bytes of a book, by class, and the longest run of a class. Assumes nothing.
 use Rattle.std.specs.Prelude.{ℕ, Bool, cond, not, ◌&&◌, ◌||◌, List, length, Some, None, Option, ◌==◌, nat_le, nat_lt}
 use Rattle.std.specs.List.{prefix_len}
-use Rattle.book.specs.declared.classes.Class.{Class}
-use Rattle.book.specs.declared.classes.Class.TheVariants.{Allowed, Letter, Numeric, Inside}
 
 -- the bytes of a space, the brackets, a minus, and the one that ends a line
 abbrev pub space : ℕ
@@ -32,11 +30,9 @@ numeric b = b == minus || (nat_le 48 b && nat_le b 57)
 abbrev pub allowed : ℕ → Bool
 allowed b = letter b || (numeric b || (b == space || (b == opening || b == closing)))
 
-abbrev pub belongs : Class → ℕ → Bool
-belongs Allowed b = allowed b
-belongs Letter b = letter b
-belongs Numeric b = numeric b
-belongs Inside b = not (b == line_end)
+-- anything but the byte that ends a line
+abbrev pub inside : ℕ → Bool
+inside b = not (b == line_end)
 
 -- the place of the first byte that fails the test
 abbrev pub first_outside : (ℕ → Bool) → List ℕ → Option ℕ

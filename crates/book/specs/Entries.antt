@@ -4,10 +4,10 @@ use Rattle.book.specs.declared.forms.Form.{Form}
 use Rattle.book.specs.declared.forms.Form.TheVariants as form
 use Rattle.book.specs.declared.record.Book.{Book}
 use Rattle.book.specs.declared.record.BookWire.{BookWire}
-use Rattle.book.specs.declared.tables.Knob.{Knob}
-use Rattle.book.specs.declared.tables.Scope.{Scope}
-use Rattle.book.specs.Limits.{rows, most_places, knobs, least_steps, most_steps, pistons, most_wires}
-use Rattle.book.specs.Tables.{row_at, knob_at, scope_at}
+use Rattle.book.specs.Limits.{rows, most_places, knobs, pistons, most_wires, Sound, Ordered}
+use Rattle.book.specs.Tables.{place_at}
+use Rattle.fittings.specs.declared.Knob.{Knob}
+use Rattle.fittings.specs.declared.Scope.{Scope}
 
 -- a form and the line that it stands on
 pub record Entry : Type 0 where
@@ -29,32 +29,32 @@ keys_of r (form.Keys row reach) = cond (r == row) (Some reach) None
 keys_of r (form.Rank row reach) = None
 keys_of r (form.Knob knob steps home) = None
 keys_of r (form.Piston piston lowest highest) = None
-keys_of r (form.Wire w) = None
+keys_of r (form.Wire board wire) = None
 
 abbrev pub pipes_of : ℕ → Form → Option ℕ
 pipes_of r (form.Keys row reach) = None
 pipes_of r (form.Rank row reach) = cond (r == row) (Some reach) None
 pipes_of r (form.Knob knob steps home) = None
 pipes_of r (form.Piston piston lowest highest) = None
-pipes_of r (form.Wire w) = None
+pipes_of r (form.Wire board wire) = None
 
 abbrev pub knob_of : ℕ → Form → Option Knob
 knob_of k (form.Keys row reach) = None
 knob_of k (form.Rank row reach) = None
 knob_of k (form.Knob knob steps home) = cond (k == knob) (Some (record { steps = steps; home = home })) None
 knob_of k (form.Piston piston lowest highest) = None
-knob_of k (form.Wire w) = None
+knob_of k (form.Wire board wire) = None
 
 abbrev pub scope_of : ℕ → Form → Option Scope
 scope_of p (form.Keys row reach) = None
 scope_of p (form.Rank row reach) = None
 scope_of p (form.Knob knob steps home) = None
 scope_of p (form.Piston piston lowest highest) = cond (p == piston) (Some (record { lowest = lowest; highest = highest })) None
-scope_of p (form.Wire w) = None
+scope_of p (form.Wire board wire) = None
 
 -- the wires in their order, each with its line
 abbrev pub wire_of : Entry → List BookWire
-wire_of e = elim e.form [ form.Keys row reach ↦ [] | form.Rank row reach ↦ [] | form.Knob knob steps home ↦ [] | form.Piston piston lowest highest ↦ [] | form.Wire w ↦ record { line = e.line; wire = w } ∷ [] ]
+wire_of e = elim e.form [ form.Keys row reach ↦ [] | form.Rank row reach ↦ [] | form.Knob knob steps home ↦ [] | form.Piston piston lowest highest ↦ [] | form.Wire board wire ↦ record { line = e.line; board = board; wire = wire } ∷ [] ]
 
 abbrev pub wires_of : List Entry → List BookWire
 wires_of [] = []
@@ -66,20 +66,20 @@ taken es (form.Keys row reach) = is_some (said (keys_of row) es)
 taken es (form.Rank row reach) = is_some (said (pipes_of row) es)
 taken es (form.Knob knob steps home) = is_some (said (knob_of knob) es)
 taken es (form.Piston piston lowest highest) = is_some (said (scope_of piston) es)
-taken es (form.Wire w) = nat_le most_wires (length (wires_of es))
+taken es (form.Wire board wire) = nat_le most_wires (length (wires_of es))
 
 -- every number of a form is in its range; a wire's are only held to their count of digits
 abbrev pub InRange : Form → Type 0
 InRange (form.Keys row reach) = (row < rows) × (reach ≤ most_places)
 InRange (form.Rank row reach) = (row < rows) × (reach ≤ most_places)
-InRange (form.Knob knob steps home) = (knob < knobs) × (least_steps ≤ steps) × (steps ≤ most_steps) × (home < steps)
-InRange (form.Piston piston lowest highest) = (piston < pistons) × (lowest ≤ highest) × (highest < knobs)
-InRange (form.Wire w) = Unit {0}
+InRange (form.Knob knob steps home) = (knob < knobs) × Sound steps home
+InRange (form.Piston piston lowest highest) = (piston < pistons) × Ordered lowest highest
+InRange (form.Wire board wire) = Unit {0}
 
 -- the record says what the entries say
 pub record Holds (b : Book) (es : List Entry) : Type 0 where
-  pub divisions : (r : ℕ) → r < rows → row_at b.divisions r ≡ said (keys_of r) es
-  pub ranks : (r : ℕ) → r < rows → row_at b.ranks r ≡ said (pipes_of r) es
-  pub knobs : (k : ℕ) → k < knobs → knob_at b.knobs k ≡ said (knob_of k) es
-  pub pistons : (p : ℕ) → p < pistons → scope_at b.pistons p ≡ said (scope_of p) es
+  pub divisions : (r : ℕ) → r < rows → place_at b.divisions r ≡ said (keys_of r) es
+  pub ranks : (r : ℕ) → r < rows → place_at b.ranks r ≡ said (pipes_of r) es
+  pub knobs : (k : ℕ) → k < knobs → place_at b.knobs k ≡ said (knob_of k) es
+  pub pistons : (p : ℕ) → p < pistons → place_at b.pistons p ≡ said (scope_of p) es
   pub wires : vec_items b.wires ≡ wires_of es

@@ -2,7 +2,6 @@
 use Rattle.std.specs.Prelude.{ℕ, ◌-◌, cond, ◌&&◌, List, ℤ, pos, negsuc, Some, None, Option, ◌==◌, nat_le, slice_index_or}
 use Rattle.book.specs.declared.forms.Board.{Board}
 use Rattle.book.specs.declared.forms.Board.TheVariants.{Coupler, Stop}
-use Rattle.book.specs.declared.forms.Wire.{Wire}
 use Rattle.book.specs.declared.forms.Form.{Form}
 use Rattle.book.specs.declared.forms.Head.{Head}
 use Rattle.book.specs.Limits.{rows, most_places, knobs, least_steps, most_steps, pistons}
@@ -47,7 +46,7 @@ piston_from zs =
     given (within (nth zs 2) 0 (knobs - 1)) (λ highest.
     given (within (nth zs 1) 0 highest) (λ lowest. Some (form.Piston piston lowest highest))))
 
-abbrev pub wire_from : List ℤ → Option Wire
+abbrev pub wire_from : List ℤ → Option Form
 wire_from zs =
     given (within (nth zs 0) 1 2) (λ board.
     given (natural (nth zs 1)) (λ from.
@@ -56,11 +55,11 @@ wire_from zs =
     given (natural (nth zs 4)) (λ to.
     given (natural (nth zs 6)) (λ knob.
     given (natural (nth zs 7)) (λ position.
-    Some (record { board = board_of board; from = from; lowest = lowest; highest = highest; to = to; shift = nth zs 5; knob = knob; position = position }))))))))
+    Some (form.Wire (board_of board) (record { from = from; lowest = lowest; highest = highest; to = to; shift = nth zs 5; knob = knob; position = position })))))))))
 
 abbrev pub form_from : Head → List ℤ → Option Form
 form_from head.Keys zs = row_from form.Keys zs
 form_from head.Rank zs = row_from form.Rank zs
 form_from head.Knob zs = knob_from zs
 form_from head.Piston zs = piston_from zs
-form_from head.Wire zs = given (wire_from zs) (λ w. Some (form.Wire w))
+form_from head.Wire zs = wire_from zs

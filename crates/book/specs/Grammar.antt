@@ -23,7 +23,7 @@ head_in (form.Keys row reach) = head.Keys
 head_in (form.Rank row reach) = head.Rank
 head_in (form.Knob knob steps home) = head.Knob
 head_in (form.Piston piston lowest highest) = head.Piston
-head_in (form.Wire w) = head.Wire
+head_in (form.Wire board wire) = head.Wire
 
 abbrev pub board_number : Board → ℕ
 board_number Coupler = 1
@@ -34,8 +34,8 @@ numbers_in (form.Keys row reach) = pos row ∷ (pos reach ∷ [])
 numbers_in (form.Rank row reach) = pos row ∷ (pos reach ∷ [])
 numbers_in (form.Knob knob steps home) = pos knob ∷ (pos steps ∷ (pos home ∷ []))
 numbers_in (form.Piston piston lowest highest) = pos piston ∷ (pos lowest ∷ (pos highest ∷ []))
-numbers_in (form.Wire w) =
-    pos (board_number w.board) ∷ (pos w.from ∷ (pos w.lowest ∷ (pos w.highest ∷ (pos w.to ∷ (w.shift ∷ (pos w.knob ∷ (pos w.position ∷ [])))))))
+numbers_in (form.Wire board wire) =
+    pos (board_number board) ∷ (pos wire.from ∷ (pos wire.lowest ∷ (pos wire.highest ∷ (pos wire.to ∷ (wire.shift ∷ (pos wire.knob ∷ (pos wire.position ∷ [])))))))
 
 -- a word and its numbers as they are written: a bracket, the word, for each number one space and the number, a bracket
 abbrev pub number_text : ℤ → List ℕ

@@ -9,6 +9,7 @@ pub mod Limits
 pub mod Numerals
 pub mod Pieces
 pub mod Reading
+pub mod Sentences
 pub mod Shapes
 pub mod Tables
 pub mod Tokens

@@ -1,5 +1,5 @@
 -- The sizes that a book is held to, and what a knob may be. Assumes nothing.
-use Rattle.std.specs.Prelude.{ℕ, Bool, ◌&&◌, ◌||◌, ◌==◌, nat_le, nat_lt}
+use Rattle.std.specs.Prelude.{ℕ, ◌<◌, ◌≤◌}
 
 -- bytes of a book
 abbrev pub most_bytes : ℕ
@@ -29,14 +29,14 @@ pistons = 40
 abbrev pub most_wires : ℕ
 most_wires = 256
 
--- no form takes more numbers
-abbrev pub most_numbers : ℕ
-most_numbers = 8
+-- numbers of a line that are kept: no form takes as many
+abbrev pub most_kept : ℕ
+most_kept = 9
 
--- no knob, or 2 to 16 steps with a home below them
-abbrev pub sound : ℕ → ℕ → Bool
-sound steps home = steps == 0 || (nat_le least_steps steps && (nat_le steps most_steps && nat_lt home steps))
+-- 2 to 16 steps with a home below them
+abbrev pub Sound : ℕ → ℕ → Type 0
+Sound steps home = (least_steps ≤ steps) × (steps ≤ most_steps) × (home < steps)
 
 -- the lowest and the highest knob of a scope
-abbrev pub ordered : ℕ → ℕ → Bool
-ordered lowest highest = nat_le lowest highest && nat_lt highest knobs
+abbrev pub Ordered : ℕ → ℕ → Type 0
+Ordered lowest highest = (lowest ≤ highest) × (highest < knobs)

@@ -1,6 +1,6 @@
 -- What reading a book answers, for every list of bytes. Assumes nothing.
-use Rattle.std.specs.Prelude.{◌≡◌, ℕ, ◌+◌, Bool, cond, List, [], ◌∷◌, ◌++◌, length, Some, None, Ok, Err, Option, Result, ◌==◌, nat_le, nat_lt}
-use Rattle.std.specs.List.{prefix_len}
+use Rattle.std.specs.Prelude.{◌≡◌, ℕ, ◌+◌, Bool, cond, List, [], ◌∷◌, ◌++◌, length, ℤ, Some, None, Ok, Err, Option, Result, ◌==◌, nat_lt}
+use Rattle.std.specs.List.{list_all}
 use Rattle.book.specs.declared.faults.BookFault.{BookFault}
 use Rattle.book.specs.declared.faults.BookFault.TheVariants as fault
 use Rattle.book.specs.declared.forms.Form.{Form}
@@ -15,16 +15,19 @@ use Rattle.book.specs.Pieces.{Shape, shape_of}
 
 -- every byte of the line is one that a book may hold
 abbrev pub clean : List ℕ → Bool
-clean l = nat_le (length l) (prefix_len allowed l)
+clean l = list_all allowed l
 
 -- the form of a word and its numbers, on line n
 abbrev pub in_range : ℕ → Option Form → Result Form BookFault
 in_range n None = Err (fault.Range n)
 in_range n (Some f) = Ok f
 
+abbrev pub formed : ℕ → Head → List ℤ → Result Form BookFault
+formed n h zs = cond (length zs == takes h) (in_range n (form_from h zs)) (Err (fault.Form n))
+
 abbrev pub counted : ℕ → Shape → Option Head → Result Form BookFault
 counted n s None = Err (fault.Form n)
-counted n s (Some h) = cond (length s.numbers == takes h) (in_range n (form_from h s.numbers)) (Err (fault.Form n))
+counted n s (Some h) = formed n h s.numbers
 
 abbrev pub form_of : ℕ → Shape → Result Form BookFault
 form_of n s = counted n s (head_of s.head)

@@ -1,16 +1,15 @@
 -- What is kept of a line's word and numbers. Assumes nothing.
-use Rattle.std.specs.Prelude.{◌≡◌, ℕ, ◌<◌, List, length, ℤ, pos, Some, None, Option, slice_index_or}
-use Rattle.book.specs.declared.shapes.Numbers.{Numbers}
+use Rattle.std.specs.Prelude.{◌≡◌, ℕ, List, take, ℤ, Some, None, Option}
 use Rattle.book.specs.declared.shapes.Parts.{Parts}
-use Rattle.book.specs.Limits.{most_numbers}
+use Rattle.arrayvec.specs.ArrayVec.{ArrayVec}
+use Rattle.book.specs.Limits.{most_kept}
 use Rattle.book.specs.Pieces.{Shape}
 
--- how many numbers there are, and the first eight of them
-pub record Kept (n : Numbers) (zs : List ℤ) : Type 0 where
-  pub count : n.count ≡ length zs
-  pub values : (k : ℕ) → k < most_numbers → k < length zs → slice_index_or n.values k (pos 0) ≡ slice_index_or zs k (pos 0)
+-- the first nine of the numbers
+pub record Kept (n : ArrayVec ℤ) (zs : List ℤ) : Type 0 where
+  pub items : n.items ≡ take most_kept zs
 
-abbrev pub Keeps : Option Numbers → Option (List ℤ) → Type 0
+abbrev pub Keeps : Option (ArrayVec ℤ) → Option (List ℤ) → Type 0
 Keeps None None = Unit {0}
 Keeps None (Some zs) = ⊥
 Keeps (Some n) None = ⊥

@@ -1,22 +1,16 @@
 -- What a table says at each place, and what giving a place does. Assumes nothing.
-use Rattle.std.specs.Prelude.{◌≡◌, ℕ, ◌<◌, Bool, false, cond, not, ◌&&◌, is_some, Some, None, Option, ◌==◌, slice_index, slice_index_or}
-use Rattle.book.specs.declared.tables.Rows.{Rows}
-use Rattle.book.specs.declared.tables.Knobs.{Knobs}
-use Rattle.book.specs.declared.tables.Scopes.{Scopes}
-use Rattle.book.specs.declared.tables.Knob.{Knob}
-use Rattle.book.specs.declared.tables.Scope.{Scope}
+use Rattle.std.specs.Prelude.{◌≡◌, ℕ, cond, not, ◌&&◌, List, is_some, is_ok, Some, None, Option, Result, ◌==◌, slice_index_or}
+use Rattle.book.specs.declared.tables.Taken.{Taken}
 
--- the reach that the book gives a row
-abbrev pub row_at : Rows → ℕ → Option ℕ
-row_at t r = cond (slice_index_or t.named r false) (Some (slice_index t.reaches r)) None
+-- what the book says of a place
+abbrev pub place_at : {X : Type 0} → List (Option X) → ℕ → Option X
+place_at t k = slice_index_or t k None
 
-abbrev pub knob_at : Knobs → ℕ → Option Knob
-knob_at t k = cond (slice_index t.steps k == 0) None (Some (record { steps = slice_index t.steps k; home = slice_index t.homes k }))
+-- whatever the book says of a place is of this kind
+abbrev pub AllGiven : {X : Type 0} → (X → Type 0) → List (Option X) → Type 0
+AllGiven {X} P t = (k : ℕ) (x : X) → place_at t k ≡ Some x → P x
 
-abbrev pub scope_at : Scopes → ℕ → Option Scope
-scope_at t p = cond (slice_index_or t.named p false) (Some (record { lowest = slice_index t.lowest p; highest = slice_index t.highest p })) None
-
--- place k of a table of n places is given x: done unless it was given before, and no other place changes
-pub record Gives {X : Type 0} (n : ℕ) (old new : ℕ → Option X) (k : ℕ) (x : X) (done : Bool) : Type 0 where
-  pub answer : done ≡ not (is_some (old k))
-  pub places : (j : ℕ) → j < n → new j ≡ cond (done && j == k) (Some x) (old j)
+-- place k of a table is given x: done unless it was given before, and no other place changes
+pub record Gives {X : Type 0} (old new : List (Option X)) (k : ℕ) (x : X) (done : Result (Unit {0}) Taken) : Type 0 where
+  pub answer : is_ok done ≡ not (is_some (place_at old k))
+  pub places : (j : ℕ) → place_at new j ≡ cond (is_ok done && j == k) (Some x) (place_at old j)

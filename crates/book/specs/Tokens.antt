@@ -1,5 +1,6 @@
 -- The tokens that the lexer hands on, by the pieces that they are. Assumes nothing.
 use Rattle.std.specs.Prelude.{◌≡◌, ℕ, Bool, true, false, ◌&&◌, ◌||◌, List, [], ◌∷◌, ◌++◌, Some, None, Option, ◌==◌}
+use denote.Ref.{Bor}
 use Rattle.book.specs.declared.lexing.Token.{Token}
 use Rattle.book.specs.declared.lexing.Token.TheVariants.{Open, Word, Number, Close}
 use Rattle.book.specs.declared.lexing.Lexed.{Lexed}
@@ -35,6 +36,11 @@ token_first [] = false
 token_first (run letters w ∷ ps) = true
 token_first (run figures w ∷ ps) = false
 token_first (mark m ∷ ps) = m == opening || (m == closing || (m == space && begins figures ps))
+
+-- the token that a text begins with, and the text after it
+abbrev pub Cuts : List ℕ → Option (Token × Bor (List ℕ)) → Type 0
+Cuts bs None = token_first (pieces bs) ≡ false
+Cuts bs (Some t) = (bs ≡ spelled t.0 ++ t.1.now) × (pieces bs ≡ token_before t.0 (pieces t.1.now))
 
 -- what the lexer answers on the given line, from the bytes before to the bytes after
 abbrev pub Lexes : ℕ → List ℕ → Option Lexed → List ℕ → Type 0

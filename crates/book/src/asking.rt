@@ -1,37 +1,12 @@
 // What a book's record answers.
 ghost use Rattle.std.specs.Prelude.{◌≡◌, ◌<◌, ◌≤◌, IfSome, count_by};
-ghost use Rattle.book.specs.Asking.{keys_in, knob_in, on_board, pipes_in, reach_in, scope_in};
-ghost use Rattle.book.specs.Limits.{knobs, least_steps, most_places, most_steps};
+ghost use Rattle.book.specs.Asking.{keys_in, knob_in, on_board, pipes_in, scope_in};
+ghost use Rattle.book.specs.Limits.{most_places, Sound, Ordered};
 
 use crate::forms::Board;
-use crate::limits::{KNOBS, PISTONS, ROWS};
 use crate::record::{Book, BookWire};
-use crate::tables::{Knob, Rows, Scope};
-
-impl Rows {
-    fn reach(&self, row: usize) -> u8
-        ensures value { result ≡ reach_in self.now row }
-        ensures bound { result ≤ most_places }
-    {
-        if row < ROWS && self.named[row] {
-            self.reaches[row]
-        } else {
-            0
-        }
-    }
-}
-
-impl BookWire {
-    fn is_on(&self, board: Board) -> bool
-        ensures { result ≡ on_board board self.now }
-    {
-        match (board, self.wire.board) {
-            (Board::Coupler, Board::Coupler) => true,
-            (Board::Stop, Board::Stop) => true,
-            _ => false,
-        }
-    }
-}
+use crate::tables::told;
+use fittings::{Knob, Scope};
 
 impl Book {
     // How many keys a division has: 0 where the book does not name it.
@@ -39,7 +14,7 @@ impl Book {
         ensures value { result ≡ keys_in self.now division }
         ensures bound { result ≤ most_places }
     {
-        self.divisions.reach(division)
+        told(&self.divisions, division).unwrap_or(0)
     }
 
     // How many pipes a rank has: 0 where the book does not name it.
@@ -47,35 +22,23 @@ impl Book {
         ensures value { result ≡ pipes_in self.now rank }
         ensures bound { result ≤ most_places }
     {
-        self.ranks.reach(rank)
+        told(&self.ranks, rank).unwrap_or(0)
     }
 
     // A knob, where the book defines it.
     pub fn knob(&self, knob: usize) -> Option<Knob>
         ensures value { result ≡ knob_in self.now knob }
-        ensures bound { IfSome result (λ k. (least_steps ≤ k.steps) × (k.steps ≤ most_steps) × (k.home < k.steps)) }
+        ensures bound { IfSome result (λ k. Sound k.steps k.home) }
     {
-        if knob >= KNOBS || self.knobs.steps[knob] == 0 {
-            return None;
-        }
-        Some(Knob {
-            steps: self.knobs.steps[knob],
-            home: self.knobs.homes[knob],
-        })
+        told(&self.knobs, knob)
     }
 
     // The knobs that a piston takes, where the book defines it.
     pub fn scope(&self, piston: usize) -> Option<Scope>
         ensures value { result ≡ scope_in self.now piston }
-        ensures bound { IfSome result (λ s. (s.lowest ≤ s.highest) × (s.highest < knobs)) }
+        ensures bound { IfSome result (λ s. Ordered s.lowest s.highest) }
     {
-        if piston >= PISTONS || !self.pistons.named[piston] {
-            return None;
-        }
-        Some(Scope {
-            lowest: self.pistons.lowest[piston],
-            highest: self.pistons.highest[piston],
-        })
+        told(&self.pistons, piston)
     }
 
     // The wires in their order.
@@ -89,13 +52,6 @@ impl Book {
     pub fn wires_on(&self, board: Board) -> usize
         ensures value { result ≡ count_by (on_board board) self.now.wires.items }
     {
-        let wires = self.wires();
-        let mut count = 0;
-        for w in wires {
-            if w.is_on(board) {
-                count += 1;
-            }
-        }
-        count
+        self.wires().iter().filter(|w| w.board == board).count()
     }
 }

@@ -1,40 +1,39 @@
-// The classes of a book's bytes, and where a run of one class ends.
+// The classes of a book's bytes.
 ghost use Rattle.std.specs.Prelude.{◌≡◌};
-ghost use Rattle.book.specs.Bytes.{belongs, first_outside};
+ghost use Rattle.book.specs.Bytes.{allowed, first_outside, inside, letter, numeric};
+ghost use Rattle.book.specs.Reading.{clean};
 
-#[derive(Clone, Copy)]
-pub enum Class {
-    // every byte that a book may hold inside a line
-    Allowed,
-    // a to z
-    Letter,
-    // a digit or a minus
-    Numeric,
-    // anything but the byte that ends a line
-    Inside,
+// a to z
+pub fn is_letter(b: &u8) -> bool
+    ensures { result ≡ letter b.now }
+{
+    b.is_ascii_lowercase()
 }
 
-fn is_in(class: Class, b: u8) -> bool
-    ensures { result ≡ belongs class b }
+// a digit or a minus
+pub fn is_numeric(b: &u8) -> bool
+    ensures { result ≡ numeric b.now }
 {
-    let letter = b'a' <= b && b <= b'z';
-    let numeric = b == b'-' || (b'0' <= b && b <= b'9');
-    match class {
-        Class::Allowed => letter || numeric || b == b' ' || b == b'(' || b == b')',
-        Class::Letter => letter,
-        Class::Numeric => numeric,
-        Class::Inside => b != b'\n',
-    }
+    *b == b'-' || b.is_ascii_digit()
 }
 
-// The place of the first byte that is not of the class.
-pub fn first_outside(text: &[u8], class: Class) -> Option<usize>
-    ensures { result ≡ first_outside (belongs class) text.now }
+// every byte that a book may hold inside a line
+fn is_allowed(b: &u8) -> bool
+    ensures { result ≡ allowed b.now }
 {
-    for (i, b) in text.iter().enumerate() {
-        if !is_in(class, *b) {
-            return Some(i);
-        }
-    }
-    None
+    is_letter(b) || is_numeric(b) || matches!(*b, b' ' | b'(' | b')')
+}
+
+// whether a line has no other byte
+pub fn is_clean(line: &[u8]) -> bool
+    ensures { result ≡ clean line.now }
+{
+    line.iter().all(is_allowed)
+}
+
+// the place where the first line ends
+pub fn end_of_line(text: &[u8]) -> Option<usize>
+    ensures { result ≡ first_outside inside text.now }
+{
+    text.iter().position(|b| *b == b'\n')
 }

@@ -1,6 +1,10 @@
 // What can be wrong with a book, each case with the line where it is.
-ghost use Rattle.std.specs.Prelude.{◌≡◌};
+ghost use Rattle.std.specs.Prelude.{◌≡◌, Some};
 ghost use Rattle.book.specs.Faults.{number_of, line_of};
+ghost use Rattle.book.specs.Sentences.{sentence_of};
+
+use std::error::Error;
+use std::fmt;
 
 // The first faulty line decides, and in it the first of these in their order.
 #[derive(Clone, Copy, Debug, PartialEq)]
@@ -40,11 +44,30 @@ impl BookFault {
     {
         match self {
             BookFault::TooLong => 0,
-            BookFault::Byte { line } => line,
-            BookFault::Shape { line } => line,
-            BookFault::Form { line } => line,
-            BookFault::Range { line } => line,
-            BookFault::Repeat { line } => line,
+            BookFault::Byte { line }
+            | BookFault::Shape { line }
+            | BookFault::Form { line }
+            | BookFault::Range { line }
+            | BookFault::Repeat { line } => line,
         }
     }
 }
+
+// What is wrong, in one sentence.
+impl fmt::Display for BookFault {
+    ghost output = { λ f. Some (sentence_of f) };
+
+    fn fmt<W: fmt::Write>(&self, f: &mut fmt::Formatter<W>) -> fmt::Result {
+        f.write_str(match self {
+            BookFault::TooLong => "The book has more than 65536 bytes.",
+            BookFault::Byte { .. } =>
+                "A byte is neither a space, a digit, a small letter, a minus nor a bracket.",
+            BookFault::Shape { .. } => "The line is not built as a form, or it has no end.",
+            BookFault::Form { .. } => "No form has this word with this many numbers.",
+            BookFault::Range { .. } => "A number is out of its range.",
+            BookFault::Repeat { .. } => "This was given before, or the book has too many wires.",
+        })
+    }
+}
+
+impl Error for BookFault {}

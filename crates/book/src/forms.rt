@@ -1,10 +1,14 @@
 // The forms of a book: what each word means, from its numbers.
-ghost use Rattle.std.specs.Prelude.{◌≡◌};
-ghost use Rattle.std.specs.Str.{bytes_eq};
-ghost use Rattle.book.specs.Forms.{form_from, knob_from, natural, piston_from, row_from, wire_from, within};
-ghost use Rattle.book.specs.Heads.{head_of, takes};
+ghost use Rattle.std.specs.Prelude.{◌≡◌, ◌^◌, ◌-◌, ◌<◌, [], ◌∷◌, Some};
+ghost use Rattle.std.specs.Option.{option_map};
+ghost use Rattle.book.specs.Forms.{board_of, given, knob_from, natural, piston_from, wire_from, within};
+ghost use Rattle.book.specs.Heads.{head_of};
+ghost use Rattle.book.specs.Limits.{most_places, rows};
+ghost use Rattle.book.specs.Reading.{formed};
 
-use crate::limits::{KNOBS, LEAST_STEPS, MOST_NUMBERS, MOST_PLACES, MOST_STEPS, PISTONS, ROWS};
+use crate::faults::BookFault;
+use crate::limits::{KNOBS, LEAST_STEPS, MOST_PLACES, MOST_STEPS, PISTONS, ROWS};
+use fittings::Wire;
 
 // The word of a form.
 #[derive(Clone, Copy)]
@@ -16,23 +20,10 @@ pub enum Head {
     Wire,
 }
 
-#[derive(Clone, Copy)]
+#[derive(Clone, Copy, Debug, PartialEq)]
 pub enum Board {
     Coupler,
     Stop,
-}
-
-// A wire as the book writes it: which of its numbers a board takes is the board's to say.
-#[derive(Clone, Copy)]
-pub struct Wire {
-    pub board: Board,
-    pub from: u16,
-    pub lowest: u16,
-    pub highest: u16,
-    pub to: u16,
-    pub shift: i16,
-    pub knob: u16,
-    pub position: u16,
 }
 
 #[derive(Clone, Copy)]
@@ -41,13 +32,7 @@ pub enum Form {
     Rank { row: u8, reach: u8 },
     Knob { knob: u8, steps: u8, home: u8 },
     Piston { piston: u8, lowest: u8, highest: u8 },
-    Wire(Wire),
-}
-
-fn is(word: &[u8], name: &[u8]) -> bool
-    ensures { result ≡ bytes_eq word.now name.now }
-{
-    word == name
+    Wire { board: Board, wire: Wire },
 }
 
 impl Head {
@@ -55,68 +40,54 @@ impl Head {
     pub fn of(word: &[u8]) -> Option<Head>
         ensures { result ≡ head_of word.now }
     {
-        if is(word, b"keys") {
-            Some(Head::Keys)
-        } else if is(word, b"rank") {
-            Some(Head::Rank)
-        } else if is(word, b"knob") {
-            Some(Head::Knob)
-        } else if is(word, b"piston") {
-            Some(Head::Piston)
-        } else if is(word, b"wire") {
-            Some(Head::Wire)
-        } else {
-            None
-        }
-    }
-
-    // How many numbers follow it.
-    pub fn takes(self) -> usize
-        ensures { result ≡ takes self }
-    {
-        match self {
-            Head::Keys | Head::Rank => 2,
-            Head::Knob | Head::Piston => 3,
-            Head::Wire => 8,
+        match word {
+            b"keys" => Some(Head::Keys),
+            b"rank" => Some(Head::Rank),
+            b"knob" => Some(Head::Knob),
+            b"piston" => Some(Head::Piston),
+            b"wire" => Some(Head::Wire),
+            _ => None,
         }
     }
 }
 
 // The number, if it is from `low` to `high`.
-fn bounded(z: i16, low: u8, high: u8) -> Option<u8>
+fn bounded(z: i16, low: usize, high: usize) -> Option<u8>
+    requires { high < 2 ^ 8 }
     ensures { result ≡ within z low high }
 {
-    if z < i16::from(low) || z > i16::from(high) {
-        return None;
-    }
-    Some(z as u8)
+    let n = u8::try_from(z).ok()?;
+    (low..=high).contains(&usize::from(n)).then_some(n)
 }
 
 // The number, if it has no minus.
 fn unsigned(z: i16) -> Option<u16>
     ensures { result ≡ natural z }
 {
-    if z < 0 {
-        return None;
-    }
-    Some(z as u16)
+    u16::try_from(z).ok()
 }
 
-fn knob_form(n: &[i16; MOST_NUMBERS]) -> Option<Form>
-    ensures { result ≡ knob_from n.now }
+fn row_and_reach(row: i16, reach: i16) -> Option<(u8, u8)>
+    ensures { result ≡ given (within row 0 (rows - 1)) (λ r. given (within reach 0 most_places) (λ n. Some (r, n))) }
 {
-    let knob = bounded(n[0], 0, KNOBS as u8 - 1)?;
-    let steps = bounded(n[1], LEAST_STEPS, MOST_STEPS)?;
-    let home = bounded(n[2], 0, steps - 1)?;
+    Some((bounded(row, 0, ROWS - 1)?, bounded(reach, 0, MOST_PLACES)?))
+}
+
+fn knob_form(knob: i16, steps: i16, home: i16) -> Option<Form>
+    ensures { result ≡ knob_from (knob ∷ (steps ∷ (home ∷ []))) }
+{
+    let knob = bounded(knob, 0, KNOBS - 1)?;
+    let steps = bounded(steps, LEAST_STEPS, MOST_STEPS)?;
+    let home = bounded(home, 0, usize::from(steps) - 1)?;
     Some(Form::Knob { knob, steps, home })
 }
 
-fn piston_form(n: &[i16; MOST_NUMBERS]) -> Option<Form>
-    ensures { result ≡ piston_from n.now }
+fn piston_form(piston: i16, lowest: i16, highest: i16) -> Option<Form>
+    ensures { result ≡ piston_from (piston ∷ (lowest ∷ (highest ∷ []))) }
 {
-    let piston = bounded(n[0], 0, PISTONS as u8 - 1)?;
-    let highest = bounded(n[2], 0, KNOBS as u8 - 1)?;
-    let lowest = bounded(n[1], 0, highest)?;
+    let piston = bounded(piston, 0, PISTONS - 1)?;
+    let highest = bounded(highest, 0, KNOBS - 1)?;
+    let lowest = bounded(lowest, 0, usize::from(highest))?;
     Some(Form::Piston {
         piston,
         lowest,
@@ -124,52 +95,55 @@ fn piston_form(n: &[i16; MOST_NUMBERS]) -> Option<Form>
     })
 }
 
-fn read_wire(n: &[i16; MOST_NUMBERS]) -> Option<Wire>
-    ensures { result ≡ wire_from n.now }
+// Its board is 1, the coupler board, or 2, the stop board.
+fn board_of(number: i16) -> Option<Board>
+    ensures { result ≡ option_map board_of (within number 1 2) }
 {
-    let board = bounded(n[0], 1, 2)?;
-    let from = unsigned(n[1])?;
-    let lowest = unsigned(n[2])?;
-    let highest = unsigned(n[3])?;
-    let to = unsigned(n[4])?;
-    let knob = unsigned(n[6])?;
-    let position = unsigned(n[7])?;
-    let board = if board == 1 {
-        Board::Coupler
-    } else {
-        Board::Stop
+    match number {
+        1 => Some(Board::Coupler),
+        2 => Some(Board::Stop),
+        _ => None,
+    }
+}
+
+fn wire_form(n: [i16; 8]) -> Option<Form>
+    ensures { result ≡ wire_from n }
+{
+    let [board, from, lowest, highest, to, shift, knob, position] = n;
+    let board = board_of(board)?;
+    let wire = Wire {
+        from: unsigned(from)?,
+        lowest: unsigned(lowest)?,
+        highest: unsigned(highest)?,
+        to: unsigned(to)?,
+        shift,
+        knob: unsigned(knob)?,
+        position: unsigned(position)?,
     };
-    Some(Wire {
-        board,
-        from,
-        lowest,
-        highest,
-        to,
-        shift: n[5],
-        knob,
-        position,
-    })
+    Some(Form::Wire { board, wire })
 }
 
 impl Form {
-    // The form of the head and its numbers, unless one is out of its range.
-    pub fn new(head: Head, n: &[i16; MOST_NUMBERS]) -> Option<Form>
-        ensures { result ≡ form_from head n.now }
+    // The form of the head and its numbers, unless there are too many or too few, or one is out of its range.
+    pub fn new(head: Head, numbers: &[i16], line: usize) -> Result<Form, BookFault>
+        ensures { result ≡ formed line head numbers.now }
     {
-        match head {
-            Head::Keys => {
-                let row = bounded(n[0], 0, ROWS as u8 - 1)?;
-                let reach = bounded(n[1], 0, MOST_PLACES)?;
-                Some(Form::Keys { row, reach })
-            }
-            Head::Rank => {
-                let row = bounded(n[0], 0, ROWS as u8 - 1)?;
-                let reach = bounded(n[1], 0, MOST_PLACES)?;
-                Some(Form::Rank { row, reach })
-            }
-            Head::Knob => knob_form(n),
-            Head::Piston => piston_form(n),
-            Head::Wire => Some(Form::Wire(read_wire(n)?)),
-        }
+        let form = match (head, numbers) {
+            (Head::Keys, [row, reach]) => row_and_reach(*row, *reach).map(|(
+                row,
+                reach,
+            )| Form::Keys { row, reach }),
+            (Head::Rank, [row, reach]) => row_and_reach(*row, *reach).map(|(
+                row,
+                reach,
+            )| Form::Rank { row, reach }),
+            (Head::Knob, [knob, steps, home]) => knob_form(*knob, *steps, *home),
+            (Head::Piston, [piston, lowest, highest]) => piston_form(*piston, *lowest, *highest),
+            (Head::Wire, [board, from, lowest, highest, to, shift, knob, position]) => wire_form([
+                *board, *from, *lowest, *highest, *to, *shift, *knob, *position,
+            ]),
+            _ => return Err(BookFault::Form { line }),
+        };
+        form.ok_or(BookFault::Range { line })
     }
 }

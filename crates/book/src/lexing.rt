@@ -1,10 +1,10 @@
 // The tokens of one line. They borrow the book's text, and each is handed on with its line.
 ghost use Rattle.std.specs.Prelude.{◌≡◌, ◌≤◌, length};
 ghost use Rattle.std.specs.List.{prefix_len};
-ghost use Rattle.book.specs.Bytes.{belongs};
-ghost use Rattle.book.specs.Tokens.{Lexes};
+ghost use Rattle.book.specs.Bytes.{letter, numeric};
+ghost use Rattle.book.specs.Tokens.{Cuts, Lexes};
 
-use crate::classes::{Class, first_outside};
+use crate::classes::{is_letter, is_numeric};
 
 #[derive(Clone, Copy)]
 pub enum Token<'a> {
@@ -27,12 +27,47 @@ pub struct Lexer<'a> {
     pub line: usize,
 }
 
-// How many bytes at the front are of the class.
-fn run_len(text: &[u8], class: Class) -> usize
-    ensures value { result ≡ prefix_len (belongs class) text.now }
+// How many letters stand at the front.
+fn letters(text: &[u8]) -> usize
+    ensures value { result ≡ prefix_len letter text.now }
     ensures bound { result ≤ length text.now }
 {
-    first_outside(text, class).unwrap_or(text.len())
+    text.iter().take_while(|b| is_letter(b)).count()
+}
+
+// How many digits and minus signs stand at the front.
+fn figures(text: &[u8]) -> usize
+    ensures value { result ≡ prefix_len numeric text.now }
+    ensures bound { result ≤ length text.now }
+{
+    text.iter().take_while(|b| is_numeric(b)).count()
+}
+
+// The token at the front of the text, and what follows it.
+fn first_token<'a>(text: &'a [u8]) -> Option<(Token<'a>, &'a [u8])>
+    ensures { Cuts text.now result }
+{
+    let [first, after @ ..] = text else {
+        return None;
+    };
+    match *first {
+        b'(' => Some((Token::Open, after)),
+        b')' => Some((Token::Close, after)),
+        b' ' => match figures(after) {
+            0 => None,
+            end => {
+                let (number, rest) = after.split_at(end);
+                Some((Token::Number(number), rest))
+            }
+        },
+        _ => match letters(text) {
+            0 => None,
+            end => {
+                let (word, rest) = text.split_at(end);
+                Some((Token::Word(word), rest))
+            }
+        },
+    }
 }
 
 impl<'a> Lexer<'a> {
@@ -41,47 +76,11 @@ impl<'a> Lexer<'a> {
         ensures answer { Lexes self.old.line self.old.rest.now result self.new.rest.now }
         ensures same { self.new.line ≡ self.old.line }
     {
-        if self.rest.is_empty() {
-            return None;
-        }
-        let line = self.line;
-        let b = self.rest[0];
-        let (_, after) = self.rest.split_at(1);
-        if b == b'(' {
-            self.rest = after;
-            return Some(Lexed {
-                token: Token::Open,
-                line,
-            });
-        }
-        if b == b')' {
-            self.rest = after;
-            return Some(Lexed {
-                token: Token::Close,
-                line,
-            });
-        }
-        if b == b' ' {
-            let end = run_len(after, Class::Numeric);
-            if end == 0 {
-                return None;
-            }
-            let (number, rest) = after.split_at(end);
-            self.rest = rest;
-            return Some(Lexed {
-                token: Token::Number(number),
-                line,
-            });
-        }
-        let end = run_len(self.rest, Class::Letter);
-        if end == 0 {
-            return None;
-        }
-        let (word, rest) = self.rest.split_at(end);
+        let (token, rest) = first_token(self.rest)?;
         self.rest = rest;
         Some(Lexed {
-            token: Token::Word(word),
-            line,
+            token,
+            line: self.line,
         })
     }
 }

@@ -6,7 +6,6 @@ mod classes;
 mod faults;
 mod filling;
 mod forms;
-mod giving;
 mod lexing;
 mod limits;
 mod lines;
@@ -17,8 +16,8 @@ mod shapes;
 mod tables;
 
 pub use faults::BookFault;
-pub use forms::{Board, Wire};
+pub use fittings::{Knob, Scope, Wire};
+pub use forms::Board;
 pub use limits::{KNOBS, MOST_BYTES, MOST_WIRES, PISTONS, ROWS};
 pub use reading::BookReader;
 pub use record::{Book, BookWire};
-pub use tables::{Knob, Scope};

@@ -4,7 +4,7 @@ ghost use Rattle.book.specs.Pieces.{Shape};
 ghost use Rattle.book.specs.Reading.{form_of, line_form};
 ghost use Rattle.book.specs.Shapes.{Kept};
 
-use crate::classes::{Class, first_outside};
+use crate::classes::is_clean;
 use crate::faults::BookFault;
 use crate::forms::{Form, Head};
 use crate::shapes::{Parts, read_shape};
@@ -16,16 +16,13 @@ fn read_form(parts: Parts) -> Result<Form, BookFault>
     let Some(head) = Head::of(parts.word) else {
         return Err(BookFault::Form { line });
     };
-    if parts.numbers.count != head.takes() {
-        return Err(BookFault::Form { line });
-    }
-    Form::new(head, &parts.numbers.values).ok_or(BookFault::Range { line })
+    Form::new(head, &parts.numbers, line)
 }
 
 pub fn read_line(text: &[u8], line: usize) -> Result<Option<Form>, BookFault>
     ensures { result ≡ line_form line text.now }
 {
-    if first_outside(text, Class::Allowed).is_some() {
+    if !is_clean(text) {
         return Err(BookFault::Byte { line });
     }
     if text.is_empty() {

@@ -5,7 +5,7 @@ ghost use Rattle.book.specs.Limits.{most_wires};
 ghost use Rattle.book.specs.Grammar.{Accepts, Judged};
 ghost use Rattle.book.specs.Reading.{Answers, Fills, at_end, read_of, with_line};
 
-use crate::classes::{Class, first_outside};
+use crate::classes::{end_of_line, is_clean};
 use crate::faults::BookFault;
 use crate::limits::{MOST_BYTES, MOST_WIRES};
 use crate::lines::read_line;
@@ -24,7 +24,7 @@ pub struct BookReader {
 fn read_end(text: &[u8], line: usize) -> Result<(), BookFault>
     ensures { (b : Book) (es : List Entry) → Holds b es → Fills result b (at_end es line text.now) }
 {
-    if first_outside(text, Class::Allowed).is_some() {
+    if !is_clean(text) {
         return Err(BookFault::Byte { line });
     }
     if !text.is_empty() {
@@ -41,10 +41,7 @@ impl Book {
         let Some(form) = read_line(text, line)? else {
             return Ok(());
         };
-        if !self.put(form, line) {
-            return Err(BookFault::Repeat { line });
-        }
-        Ok(())
+        self.put(form, line).map_err(|_| BookFault::Repeat { line })
     }
 }
 
@@ -70,10 +67,9 @@ impl BookReader {
         let mut book = Book::blank(wires);
         let mut rest = text;
         let mut line = 1;
-        while let Some(end) = first_outside(rest, Class::Inside) {
-            let (this, after) = rest.split_at(end);
-            book.add_line(this, line)?;
-            (_, rest) = after.split_at(1);
+        while let Some(end) = end_of_line(rest) {
+            book.add_line(&rest[..end], line)?;
+            rest = &rest[end + 1..];
             line += 1;
         }
         read_end(rest, line)?;

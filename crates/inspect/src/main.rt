@@ -3,7 +3,7 @@
 
 mod report;
 
-use book::{Board, Book, BookReader, KNOBS, PISTONS, ROWS};
+use book::{Board, Book, BookReader, KNOBS, Knob, PISTONS, ROWS, Scope};
 use report::refusal;
 use std::io::ErrorKind;
 use std::process::ExitCode;
@@ -12,28 +12,19 @@ use std::{fs, io};
 // The bytes of the file: none where it is missing.
 fn book_text(rt: &HostRuntime) -> io::Result<Vec<u8>> {
     match fs::read(rt, "organ.book") {
-        Ok(text) => Ok(text),
-        Err(e) => if e.kind() == ErrorKind::NotFound {
-            Ok(Vec::new(rt.alloc()))
-        } else {
-            Err(e)
-        },
+        Err(e) if e.kind() == ErrorKind::NotFound => Ok(Vec::new(rt.alloc())),
+        text => text,
     }
 }
 
-fn print_rows(rt: &HostRuntime, book: &Book) -> io::Result<()> {
-    rt.println("Divisions:")?;
+// The rows of one level that have places, as keys or pipes.
+fn print_rows<F: Fn(usize) -> u8>(rt: &HostRuntime, places: &str, reach: F) -> io::Result<()>
+    requires { F.IsAlwaysCallable reach }
+{
     for row in 0..ROWS {
-        let keys = book.keys(row);
-        if keys > 0 {
-            println!(rt; "  {row}: {keys} keys")?;
-        }
-    }
-    rt.println("Ranks:")?;
-    for row in 0..ROWS {
-        let pipes = book.pipes(row);
-        if pipes > 0 {
-            println!(rt; "  {row}: {pipes} pipes")?;
+        let count = reach(row);
+        if count > 0 {
+            println!(rt; "  {row}: {count} {places}")?;
         }
     }
     Ok(())
@@ -42,17 +33,13 @@ fn print_rows(rt: &HostRuntime, book: &Book) -> io::Result<()> {
 fn print_knobs(rt: &HostRuntime, book: &Book) -> io::Result<()> {
     rt.println("Knobs:")?;
     for k in 0..KNOBS {
-        if let Some(knob) = book.knob(k) {
-            let steps = knob.steps;
-            let home = knob.home;
+        if let Some(Knob { steps, home }) = book.knob(k) {
             println!(rt; "  {k}: {steps} steps, home at {home}")?;
         }
     }
     rt.println("Pistons:")?;
     for p in 0..PISTONS {
-        if let Some(scope) = book.scope(p) {
-            let lowest = scope.lowest;
-            let highest = scope.highest;
+        if let Some(Scope { lowest, highest }) = book.scope(p) {
             println!(rt; "  {p}: knobs {lowest} to {highest}")?;
         }
     }
@@ -61,7 +48,10 @@ fn print_knobs(rt: &HostRuntime, book: &Book) -> io::Result<()> {
 
 fn print_book(rt: &HostRuntime, book: &Book) -> io::Result<()> {
     rt.println("The book is good.")?;
-    print_rows(rt, book)?;
+    rt.println("Divisions:")?;
+    print_rows(rt, "keys", |row| book.keys(row))?;
+    rt.println("Ranks:")?;
+    print_rows(rt, "pipes", |row| book.pipes(row))?;
     print_knobs(rt, book)?;
     let couplers = book.wires_on(Board::Coupler);
     let stops = book.wires_on(Board::Stop);

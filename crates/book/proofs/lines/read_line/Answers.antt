@@ -1,15 +1,15 @@
-use Rattle.std.proofs.Common.{◌≡◌, is_some, Ok, Err, Result, ap, ◌∙◌, false-eqb}
+use Rattle.std.proofs.Common.{◌≡◌, Ok, Err, Result, sym, ap, ◌∙◌, false-eqb}
 use Rattle.std.proofs.lemmas.Result.{err_from_is_err_and}
 use Rattle.book.specs.declared.faults.BookFault.{BookFault}
 use Rattle.book.specs.declared.forms.Form.{Form}
 use Rattle.book.specs.Reading.{line_form, some_form}
-use Rattle.book.proofs.Lining.{Comes, clean-from, line_shaped}
+use Rattle.book.proofs.Lining.{Comes, line_shaped}
 use Rattle.book.proofs.lines.read_line.Goals as goal
 use Rattle.book.proofs.lines.read_line.Goals.{In-Some}
 
 read : (c : In-Some) (r : Result Form BookFault) → Comes c.in-Some.parts r → some_form r ≡ line_form c.args.line c.args.text.now
 read c r comes =
-    line_shaped c.args.line c.args.text.now c.in-Some.parts r (clean-from _ (c.if-is_some.ensures ∙ ap is_some c.first_outside.ensures)) (false-eqb _ 0 c.if-is_empty.ensures) c.in-Some.ensures comes
+    line_shaped c.args.line c.args.text.now c.in-Some.parts r (sym c.is_clean.ensures ∙ c.if-not-is_clean.false) (false-eqb _ 0 c.if-is_empty.ensures) c.in-Some.ensures comes
 
 pub returns-in_err-read_form : goal.returns-in_err-read_form
 returns-in_err-read_form c =

@@ -3,11 +3,11 @@ use Rattle.std.proofs.lemmas.Int.{to_z-of_z}
 use Rattle.std.proofs.lemmas.List.{length-append}
 use Rattle.book.specs.Pieces.{pieces, numbers_of}
 use Rattle.book.specs.Tokens.{spelled, token_before}
-use Rattle.book.proofs.Counting.{start, stop, finish, go_on, end_at_close, none-after_close}
+use Rattle.book.proofs.Counting.{start, stop, finish, go_on, kept_more, end_at_close, none-after_close}
 use Rattle.book.proofs.shapes.read_numbers.Goals as goal
 
 pub loop-text-init : goal.loop-text-init
-loop-text-init c = start _ _ c.none-numbers.ensures
+loop-text-init c = start _ _ (record { items = c.new-numbers.ensures })
 
 pub loop-text-smaller : goal.loop-text-smaller
 loop-text-smaller c =
@@ -20,8 +20,9 @@ loop-text-preserved c =
     let after = c.next_token.new.self.rest.now in
     let told = c.in_ok-text.ensures.answer in
     let z = c.in_ok-read_numeral-in-Number.field-0 in
+    let p = c.try_push.ensures in
     let fits : SFits w16 z = search rules in
-    go_on _ _ _ _ after _ z _ c.loop-text.invariant (told.2 ∙ ap (λ t. token_before t (pieces after)) c.in-Number.is) (told.1 ∙ ap (λ t. spelled t ++ after) c.in-Number.is) c.in_ok-read_numeral-in-Number.ensures (to_z-of_z w16 z fits) (c.push.ensures.after _ c.loop-text.invariant.kept)
+    go_on _ _ _ _ after _ z c.loop-text.invariant (told.2 ∙ ap (λ t. token_before t (pieces after)) c.in-Number.is) c.in_ok-read_numeral-in-Number.ensures (kept_more _ _ _ z _ c.try_push.result p.variant.0 p.ok p.err p.full (to_z-of_z w16 z fits) c.loop-text.invariant.kept)
 
 pub returns-then-is_empty : goal.returns-then-is_empty
 returns-then-is_empty c =

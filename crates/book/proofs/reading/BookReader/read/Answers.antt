@@ -1,8 +1,8 @@
-use Rattle.std.proofs.Common.{Ok, Err, sym, refl, ap, ◌∙◌, subst, arith}
-use Rattle.std.proofs.lemmas.List.{nil_from_length}
+use Rattle.std.proofs.Common.{◌+◌, Ok, Err, sym, refl, ap, ◌∙◌, subst, arith}
+use Rattle.std.proofs.lemmas.List.{nil_from_length, take_rest}
 use Rattle.std.proofs.lemmas.Result.{err_from_is_err_and}
 use Rattle.book.specs.Reading.{Answers, read_of}
-use Rattle.book.proofs.Course.{inside, some-outside, start, shorter, next-line, bad_line, bad_book, bad_end, good_end}
+use Rattle.book.proofs.Course.{start, shorter, next-line, bad_line, bad_book, bad_end, good_end}
 use Rattle.book.proofs.Judging.{judged, accepts}
 use Rattle.book.proofs.reading.BookReader.read.Goals as goal
 
@@ -14,23 +14,18 @@ blank-book-requires c =
 pub loop-end-init : goal.loop-end-init
 loop-end-init c = start _ _ c.blank-book.ensures
 
-pub split_at-requires-in-Some : goal.split_at-requires-in-Some
-split_at-requires-in-Some c =
-    let at = some-outside inside c.loop-end.rest.now c.in-Some.end c.in-Some.ensures in
-    omega (arith, at.1, c.split_at.ensures.back_len)
-
 pub loop-end-preserved : goal.loop-end-preserved
 loop-end-preserved c =
-    next-line _ _ _ _ _ _ _ _ c.in-Some.end c.loop-end.invariant c.in-Some.ensures c.split_at.ensures.front c.split_at.ensures.back c.split_at-in-Some.ensures.back _ (c.in_ok-add_line.ensures _ c.loop-end.invariant.holds)
+    next-line _ _ _ _ _ _ c.in-Some.end c.loop-end.invariant c.in-Some.ensures (take_rest c.loop-end.rest.now (c.in-Some.end + 1)) _ (c.in_ok-add_line.ensures _ c.loop-end.invariant.holds)
 
 pub loop-end-smaller : goal.loop-end-smaller
 loop-end-smaller c =
-    shorter c.loop-end.book c.loop-end.book _ _ _ _ _ _ c.in-Some.end c.loop-end.invariant c.in-Some.ensures c.split_at.ensures.front c.split_at.ensures.back c.split_at-in-Some.ensures.back
+    shorter c.loop-end.book c.loop-end.book _ _ _ _ c.in-Some.end c.loop-end.invariant c.in-Some.ensures (take_rest c.loop-end.rest.now (c.in-Some.end + 1))
 
 pub returns-in_err-add_line : goal.returns-in_err-add_line
 returns-in_err-add_line c =
     let p = err_from_is_err_and c.from_residual.result c.from_residual.ensures.1 in
-    let bad = bad_line _ c.add_line.new.self _ _ _ _ _ _ c.in-Some.end c.loop-end.invariant c.in-Some.ensures c.split_at.ensures.front c.split_at.ensures.back refl _ (c.in_err-add_line.ensures _ c.loop-end.invariant.holds) in
+    let bad = bad_line _ c.add_line.new.self _ _ _ _ c.in-Some.end c.loop-end.invariant c.in-Some.ensures refl _ (c.in_err-add_line.ensures _ c.loop-end.invariant.holds) in
     let a = subst (λ r. Answers r (read_of c.args.text.now)) (sym (p.1 ∙ ap Err p.2)) (bad_book _ _ c.if-text-gt-MOST_BYTES.false bad) in
     record { answer = a; judged = judged c.args.text.now _ a; accepts = accepts c.args.text.now _ a }
 

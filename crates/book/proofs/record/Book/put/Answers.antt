@@ -1,9 +1,8 @@
-use Rattle.std.proofs.Common.{◌<◌, not, length, is_some, sym, ap, ◌∙◌, subst, arith}
+use Rattle.std.proofs.Common.{◌<◌, not, length, sym, ap, ◌∙◌, subst, arith}
 use Rattle.std.proofs.lemmas.Bool.{lt-leb}
 use Rattle.book.specs.Entries.{Entry, keys_of, pipes_of, knob_of, scope_of, wire_of, wires_of, taken, InRange}
 use Rattle.book.specs.Limits.{rows, knobs, pistons, most_wires}
-use Rattle.book.specs.Tables.{row_at, knob_at, scope_at}
-use Rattle.book.proofs.Said.{more_table, divisions_stay, ranks_stay, knobs-stay, pistons-stay, wires-stay, wires-grow}
+use Rattle.book.proofs.Said.{more_table, full_or_free, divisions_stay, ranks_stay, knobs-stay, pistons-stay, wires-stay, wires-grow}
 use Rattle.book.proofs.record.Book.put.Goals as goal
 
 pub returns-in-Keys : goal.returns-in-Keys
@@ -11,11 +10,11 @@ returns-in-Keys c =
     let is = c.in-Keys.is in
     let within = subst InRange is c.requires in
     record {
-      answer = λ es h. c.give.ensures.answer ∙ ap (λ o. not (is_some o)) (h.divisions c.in-Keys.row within.0) ∙ ap (λ f. not (taken es f)) (sym is);
+      answer = λ es h. full_or_free _ _ _ _ _ _ _ c.from.ensures c.give.ensures (h.divisions c.in-Keys.row within.0) ∙ ap (λ f. not (taken es f)) (sym is);
       after = λ es h done.
           let e : Entry = record { line = c.args.line; form = c.args.form } in
           record {
-            divisions = more_table rows keys_of es e (row_at c.args.self.now.divisions) _ c.in-Keys.row c.in-Keys.reach _ c.give.ensures done (λ j. ap (keys_of j) is) h.divisions;
+            divisions = more_table rows keys_of es e _ _ _ _ _ _ c.from.ensures c.give.ensures done (λ j. ap (keys_of j) is) h.divisions;
             ranks = ranks_stay _ es h e (λ j. ap (pipes_of j) is);
             knobs = knobs-stay _ es h e (λ j. ap (knob_of j) is);
             pistons = pistons-stay _ es h e (λ j. ap (scope_of j) is);
@@ -28,12 +27,12 @@ returns-in-Rank c =
     let is = c.in-Rank.is in
     let within = subst InRange is c.requires in
     record {
-      answer = λ es h. c.give-in-Rank.ensures.answer ∙ ap (λ o. not (is_some o)) (h.ranks c.in-Rank.row within.0) ∙ ap (λ f. not (taken es f)) (sym is);
+      answer = λ es h. full_or_free _ _ _ _ _ _ _ c.from-in-Rank.ensures c.give-in-Rank.ensures (h.ranks c.in-Rank.row within.0) ∙ ap (λ f. not (taken es f)) (sym is);
       after = λ es h done.
           let e : Entry = record { line = c.args.line; form = c.args.form } in
           record {
             divisions = divisions_stay _ es h e (λ j. ap (keys_of j) is);
-            ranks = more_table rows pipes_of es e (row_at c.args.self.now.ranks) _ c.in-Rank.row c.in-Rank.reach _ c.give-in-Rank.ensures done (λ j. ap (pipes_of j) is) h.ranks;
+            ranks = more_table rows pipes_of es e _ _ _ _ _ _ c.from-in-Rank.ensures c.give-in-Rank.ensures done (λ j. ap (pipes_of j) is) h.ranks;
             knobs = knobs-stay _ es h e (λ j. ap (knob_of j) is);
             pistons = pistons-stay _ es h e (λ j. ap (scope_of j) is);
             wires = wires-stay _ es h e (ap (λ f. wire_of (record { line = c.args.line; form = f })) is);
@@ -45,13 +44,13 @@ returns-in-Knob c =
     let is = c.in-Knob.is in
     let within = subst InRange is c.requires in
     record {
-      answer = λ es h. c.give-in-Knob.ensures.answer ∙ ap (λ o. not (is_some o)) (h.knobs c.in-Knob.knob within.0) ∙ ap (λ f. not (taken es f)) (sym is);
+      answer = λ es h. full_or_free _ _ _ _ _ _ _ c.from-in-Knob.ensures c.give-in-Knob.ensures (h.knobs c.in-Knob.knob within.0) ∙ ap (λ f. not (taken es f)) (sym is);
       after = λ es h done.
           let e : Entry = record { line = c.args.line; form = c.args.form } in
           record {
             divisions = divisions_stay _ es h e (λ j. ap (keys_of j) is);
             ranks = ranks_stay _ es h e (λ j. ap (pipes_of j) is);
-            knobs = more_table knobs knob_of es e (knob_at c.args.self.now.knobs) _ c.in-Knob.knob (record { steps = c.in-Knob.steps; home = c.in-Knob.home }) _ c.give-in-Knob.ensures done (λ j. ap (knob_of j) is) h.knobs;
+            knobs = more_table knobs knob_of es e _ _ _ _ _ _ c.from-in-Knob.ensures c.give-in-Knob.ensures done (λ j. ap (knob_of j) is) h.knobs;
             pistons = pistons-stay _ es h e (λ j. ap (scope_of j) is);
             wires = wires-stay _ es h e (ap (λ f. wire_of (record { line = c.args.line; form = f })) is);
           };
@@ -62,14 +61,14 @@ returns-in-Piston c =
     let is = c.in-Piston.is in
     let within = subst InRange is c.requires in
     record {
-      answer = λ es h. c.give-in-Piston.ensures.answer ∙ ap (λ o. not (is_some o)) (h.pistons c.in-Piston.piston within.0) ∙ ap (λ f. not (taken es f)) (sym is);
+      answer = λ es h. full_or_free _ _ _ _ _ _ _ c.from-in-Piston.ensures c.give-in-Piston.ensures (h.pistons c.in-Piston.piston within.0) ∙ ap (λ f. not (taken es f)) (sym is);
       after = λ es h done.
           let e : Entry = record { line = c.args.line; form = c.args.form } in
           record {
             divisions = divisions_stay _ es h e (λ j. ap (keys_of j) is);
             ranks = ranks_stay _ es h e (λ j. ap (pipes_of j) is);
             knobs = knobs-stay _ es h e (λ j. ap (knob_of j) is);
-            pistons = more_table pistons scope_of es e (scope_at c.args.self.now.pistons) _ c.in-Piston.piston (record { lowest = c.in-Piston.lowest; highest = c.in-Piston.highest }) _ c.give-in-Piston.ensures done (λ j. ap (scope_of j) is) h.pistons;
+            pistons = more_table pistons scope_of es e _ _ _ _ _ _ c.from-in-Piston.ensures c.give-in-Piston.ensures done (λ j. ap (scope_of j) is) h.pistons;
             wires = wires-stay _ es h e (ap (λ f. wire_of (record { line = c.args.line; form = f })) is);
           };
     }
