@@ -8,7 +8,7 @@ use Rattle.chest.specs.Meaning.{Meaning, Panel, Bounded, next_strobe}
 use Rattle.console.specs.declared.call.Call.TheVariants.{Capture}
 use Rattle.console.specs.declared.console.Console.{Console}
 use Rattle.console.specs.declared.pistons.PistonTable.{PistonTable}
-use Rattle.console.specs.Knobs.{steps_of}
+use Rattle.console.specs.KnobTable.{steps_of}
 use Rattle.console.specs.Pistons.{scope_of, frame_of}
 use Rattle.console.specs.Model.{Setup, Model, Memory, check, done, after, takes, memory}
 use Rattle.console.specs.Record.{EntryLaw, answer_of}
@@ -36,13 +36,13 @@ memory-low s q k n panel low h = at (takes s q k) refl where
       absurd (omega arith)
 
 module _ {C : Type 0} {meaning : C → Meaning} {settled : C → Type 0} (quiet : (c : C) (panel : Panel) → (meaning c).rule panel none ≡ none) where
-  module _ {c : Console C} {s : Setup} {p : Model} (q : ℕ) (pistons : PistonTable) (positions : List ℕ) (t : Tracks meaning settled c s p) (bounded : Bounded (meaning c.chest)) (f : check s p (Capture q) ≡ Ok tt) (read : (k : ℕ) → k < 64 → get_or positions k 0 ≡ (meaning c.chest).panel k) (scopes : (r : ℕ) → scope_of pistons.pistons r ≡ scope_of c.pistons.pistons r) (there : frame_of pistons.pistons q ≡ Some positions) (others : (r : ℕ) → (r ≡ q → ⊥) → frame_of pistons.pistons r ≡ frame_of c.pistons.pistons r) where
+  module _ {c : Console C} {s : Setup} {p : Model} (q : ℕ) (pistons : PistonTable) (positions : List ℕ) (t : Tracks meaning settled c s p) (bounded : Bounded (meaning c.chest)) (f : check s p (Capture q) ≡ Ok tt) (read : (k : ℕ) → k < 64 → get_or positions k 0 ≡ (meaning c.chest).panel k) (scopes : (r : ℕ) → scope_of pistons r ≡ scope_of c.pistons r) (there : frame_of pistons q ≡ Some positions) (others : (r : ℕ) → (r ≡ q → ⊥) → frame_of pistons r ≡ frame_of c.pistons r) where
     panel-low : (k : ℕ) → p.panel k < 16
     panel-low k = let e = ap (λ (x : Panel). x k) t.agrees.panel in omega (arith, bounded.positions k)
 
     taken-read : (k : ℕ) → takes s q k ≡ true → get_or positions k 0 ≡ p.panel k
     taken-read k h =
-        let steps : steps_of c.knobs.steps k ≡ s.steps k = ap (λ x. x.steps k) t.setup in
+        let steps : steps_of c.knobs k ≡ s.steps k = ap (λ x. x.steps k) t.setup in
         let some = ap is_some steps in
         let low : k < 64 = grind (arith, nat_tests) in
         read k low ∙ ap (λ (x : Panel). x k) t.agrees.panel
@@ -53,7 +53,7 @@ module _ {C : Type 0} {meaning : C → Meaning} {settled : C → Type 0} (quiet 
       one r =
           ⊎_elim
           (λ (e : r ≡ q).
-          ap (λ n. option_map (λ frame. memory s (λ k. get_or frame k 0) n) (frame_of pistons.pistons n)) e
+          ap (λ n. option_map (λ frame. memory s (λ k. get_or frame k 0) n) (frame_of pistons n)) e
           ∙ ap (option_map (λ frame. memory s (λ k. get_or frame k 0) q)) there
           ∙ ap Some (memory-is s q (λ k. get_or positions k 0) p.panel taken-read)
           ∙ sym (ap (λ b. cond b (Some (memory s p.panel q)) (p.stored r)) (eq-eqb r q e)))

@@ -2,7 +2,8 @@
 use Rattle.std.proofs.Common.{◌≡◌, ℕ, ◌<◌, Bool, true, false, cond, Ok, Err, Result, sym, ap, ◌∙◌, subst, arith}
 use Rattle.std.proofs.lemmas.Bool.Decides.{nat_tests}
 use Rattle.chest.specs.Places.{none, changed}
-use Rattle.chest.specs.Meaning.{Meaning, Panel, Bounded, set_after, strobe_after, with_panel as with-panel-of}
+use Rattle.chest.specs.Meaning.{Meaning, Panel, Bounded, Becomes, set_after, strobe_after, with_panel as with-panel-of}
+use Rattle.chest.specs.Walks.{row_shown}
 use Rattle.console.specs.declared.call.Call.{Call}
 use Rattle.console.specs.declared.console.Console.{Console}
 use Rattle.console.specs.declared.fault.PlayFault.{PlayFault}
@@ -12,7 +13,6 @@ use Rattle.console.specs.KeyTable.{keys_of}
 use Rattle.console.specs.Model.{Setup, Model, with_keys, with_panel, key_check, check, done, after}
 use Rattle.console.specs.Record.{Answer, EntryLaw, strobing}
 use Rattle.console.specs.Tracks.{Sane, Tracks}
-use Rattle.console.specs.Walks.{row_shown}
 use Rattle.console.proofs.Steps.{held, refused_follows, done-follows}
 use Rattle.console.proofs.Keyed.{key_held, row_held, panel-held, key_err}
 
@@ -65,21 +65,21 @@ sane_keys keys sane held = record { held = held; stored = sane.stored }
 
 module _ {C : Type 0} {meaning : C → Meaning} {settled : C → Type 0} (quiet : (c : C) (panel : Panel) → (meaning c).rule panel none ≡ none) where
   -- a division or a key that is none
-  pub key_refused : {c : Console C} {s : Setup} {p : Model} (call : Call) (d k : ℕ) (then : Result Unit PlayFault) (e : PlayFault) (r : Answer) (t : Tracks meaning settled c s p) → check s p call ≡ key_check s.reach d k then → r ≡ Err e → Err e ≡ key_check (meaning c.chest).reach d k (Ok tt) → Tracks meaning settled c s (after s p call) × EntryLaw s (meaning c.chest) p (record { call = call; answer = r; chest = meaning c.chest })
+  pub key_refused : {c : Console C} {s : Setup} {p : Model} (call : Call) (d k : ℕ) (then : Result Unit PlayFault) (e : PlayFault) (r : Answer) (t : Tracks meaning settled c s p) → check s p call ≡ key_check s.reach d k then → r ≡ Err e → key_check (meaning c.chest).reach d k (Ok tt) ≡ Err e → Tracks meaning settled c s (after s p call) × EntryLaw s (meaning c.chest) p (record { call = call; answer = r; chest = meaning c.chest })
   key_refused {c} {s} call d k then e r t is answered given =
       let reach = ap (λ x. x.reach) t.setup in
       refused_follows quiet call e r t answered (is ∙ ap (λ x. key_check x d k then) (sym reach) ∙ key_err (meaning c.chest).reach d k e then given)
 
-  module _ {c : Console C} {s : Setup} {p : Model} (call : Call) (n : ℕ) (keys : KeyTable) (mid last : C) (t : Tracks meaning settled c s p) (f : check s p call ≡ Ok tt) (strobes : strobing call ≡ true) (strobe : settled mid → settled last × (meaning last ≡ strobe_after (meaning mid))) (count : n ≡ changed (meaning mid).speaking (meaning last).speaking) where
+  module _ {c : Console C} {s : Setup} {p : Model} (call : Call) (n : ℕ) (keys : KeyTable) (mid last : C) (t : Tracks meaning settled c s p) (f : check s p call ≡ Ok tt) (strobes : strobing call ≡ true) (strobe : Becomes meaning settled mid last (strobe_after (meaning mid))) (count : n ≡ changed (meaning mid).speaking (meaning last).speaking) where
     -- one key: set as it sounds, then strobed
-    pub key_follows : (to : Keys) (d k : ℕ) (on : Bool) → done s p call ≡ with_keys p to → keys_of keys ≡ to → Held to → d < 16 → k < (meaning c.chest).reach d → on ≡ sounding to d k → ((e j : ℕ) → ((e ≡ d) × (j ≡ k) → ⊥) → sounding to e j ≡ sounding p.keys e j) → (settled c.chest → settled mid × (meaning mid ≡ set_after (meaning c.chest) d k on)) → Tracks meaning settled (record { chest = last; knobs = c.knobs; pistons = c.pistons; keys = keys }) s (after s p call) × EntryLaw s (meaning c.chest) p (record { call = call; answer = Ok n; chest = meaning last })
+    pub key_follows : (to : Keys) (d k : ℕ) (on : Bool) → done s p call ≡ with_keys p to → keys_of keys ≡ to → Held to → d < 16 → k < (meaning c.chest).reach d → on ≡ sounding to d k → ((e j : ℕ) → ((e ≡ d) × (j ≡ k) → ⊥) → sounding to e j ≡ sounding p.keys e j) → Becomes meaning settled c.chest mid (set_after (meaning c.chest) d k on) → Tracks meaning settled (record { chest = last; knobs = c.knobs; pistons = c.pistons; keys = keys }) s (after s p call) × EntryLaw s (meaning c.chest) p (record { call = call; answer = Ok n; chest = meaning last })
     key_follows to d k on is tables holds hd hk sounds others set =
         let at = set t.steady in
         let mid-is = at.1 ∙ key_held t.agrees to d k on hd hk sounds others ∙ ap (held (meaning c.chest)) (sym is) in
         done-follows quiet call n keys mid last t f strobes (at.0, mid-is) strobe count (tables ∙ sym (ap (λ q. q.keys) is)) (ap (λ q. q.stored) is) (subst Sane (sym is) (sane_keys to t.sane holds))
 
     -- a division: its keys set as they sound, then strobed
-    pub row_follows : (to : Keys) (d : ℕ) → Bounded (meaning c.chest) → done s p call ≡ with_keys p to → keys_of keys ≡ to → Held to → ((e j : ℕ) → (e ≡ d → ⊥) → sounding to e j ≡ sounding p.keys e j) → ((j : ℕ) → sounding to d j ≡ true → sounding p.keys d j ≡ true) → (settled c.chest → settled mid × (meaning mid ≡ row_shown (meaning c.chest) (sounding (keys_of keys)) d ((meaning c.chest).reach d))) → Tracks meaning settled (record { chest = last; knobs = c.knobs; pistons = c.pistons; keys = keys }) s (after s p call) × EntryLaw s (meaning c.chest) p (record { call = call; answer = Ok n; chest = meaning last })
+    pub row_follows : (to : Keys) (d : ℕ) → Bounded (meaning c.chest) → done s p call ≡ with_keys p to → keys_of keys ≡ to → Held to → ((e j : ℕ) → (e ≡ d → ⊥) → sounding to e j ≡ sounding p.keys e j) → ((j : ℕ) → sounding to d j ≡ true → sounding p.keys d j ≡ true) → Becomes meaning settled c.chest mid (row_shown (meaning c.chest) (sounding (keys_of keys)) d ((meaning c.chest).reach d)) → Tracks meaning settled (record { chest = last; knobs = c.knobs; pistons = c.pistons; keys = keys }) s (after s p call) × EntryLaw s (meaning c.chest) p (record { call = call; answer = Ok n; chest = meaning last })
     row_follows to d bounded is tables holds others fewer set =
         let m = meaning c.chest in
         let at = set t.steady in
@@ -87,8 +87,9 @@ module _ {C : Type 0} {meaning : C → Meaning} {settled : C → Type 0} (quiet 
         done-follows quiet call n keys mid last t f strobes (at.0, mid-is) strobe count (tables ∙ sym (ap (λ q. q.keys) is)) (ap (λ q. q.stored) is) (subst Sane (sym is) (sane_keys to t.sane holds))
 
     -- knobs: turned, then strobed
-    pub panel-follows : (to : Panel) → done s p call ≡ with_panel p to → keys ≡ c.keys → settled mid × (meaning mid ≡ with-panel-of (meaning c.chest) to) → Tracks meaning settled (record { chest = last; knobs = c.knobs; pistons = c.pistons; keys = keys }) s (after s p call) × EntryLaw s (meaning c.chest) p (record { call = call; answer = Ok n; chest = meaning last })
-    panel-follows to is kept set =
+    pub panel-follows : (to : Panel) {x : Meaning} → done s p call ≡ with_panel p to → keys ≡ c.keys → Becomes meaning settled c.chest mid x → x ≡ with-panel-of (meaning c.chest) to → Tracks meaning settled (record { chest = last; knobs = c.knobs; pistons = c.pistons; keys = keys }) s (after s p call) × EntryLaw s (meaning c.chest) p (record { call = call; answer = Ok n; chest = meaning last })
+    panel-follows to is kept turned shown =
         let m = meaning c.chest in
-        let mid-is = set.1 ∙ panel-held t.agrees to ∙ ap (held m) (sym is) in
+        let set = turned t.steady in
+        let mid-is = set.1 ∙ shown ∙ panel-held t.agrees to ∙ ap (held m) (sym is) in
         done-follows quiet call n keys mid last t f strobes (set.0, mid-is) strobe count (ap keys_of kept ∙ t.keys ∙ sym (ap (λ q. q.keys) is)) (ap (λ q. q.stored) is) (subst Sane (sym is) (record { held = t.sane.held; stored = t.sane.stored }))

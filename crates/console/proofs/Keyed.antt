@@ -3,19 +3,16 @@ use Rattle.std.proofs.Common.{◌≡◌, ℕ, ◌<◌, Bool, true, Ok, Err, Resu
 use Rattle.std.proofs.lemmas.Bool.Decides.{nat_tests}
 use Rattle.chest.specs.Places.{Places, put}
 use Rattle.chest.specs.Meaning.{Meaning, Panel, Bounded, set_after, with_panel}
+use Rattle.chest.specs.Walks.{row_shown}
 use Rattle.chest.proofs.Calls.{set-done}
 use Rattle.console.specs.declared.fault.PlayFault.{PlayFault}
 use Rattle.console.specs.Keys.{Keys, sounding}
 use Rattle.console.specs.Model.{Model, with_keys, with_panel as model-panel, key_check}
 use Rattle.console.specs.Tracks.{Agrees}
-use Rattle.console.specs.Walks.{row_shown}
 use Rattle.console.proofs.Steps.{held}
 
--- the checks of a key
-pub key_ok : (reach : ℕ → ℕ) (d k : ℕ) (r : Result Unit PlayFault) → r ≡ Ok tt → r ≡ key_check reach d k (Ok tt) → (d < 16) × (k < reach d)
-key_ok reach d k r ok is = (grind (arith, nat_tests), grind (arith, nat_tests))
-
-pub key_err : (reach : ℕ → ℕ) (d k : ℕ) (e : PlayFault) (then : Result Unit PlayFault) → Err e ≡ key_check reach d k (Ok tt) → key_check reach d k then ≡ Err e
+-- a key that fails its checks fails those that come after too
+pub key_err : (reach : ℕ → ℕ) (d k : ℕ) (e : PlayFault) (then : Result Unit PlayFault) → key_check reach d k (Ok tt) ≡ Err e → key_check reach d k then ≡ Err e
 key_err reach d k e then is = grind (arith, nat_tests)
 
 -- one key set as it sounds

@@ -1,5 +1,5 @@
 mod Blank
-mod Walking
+mod Homes
 mod Steps
 mod Keyed
 mod Follow

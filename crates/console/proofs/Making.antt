@@ -3,35 +3,24 @@ use Rattle.std.proofs.Common.{◌≡◌, ℕ, Bool, true, false, get_or, is_some
 use Rattle.std.specs.Option.{option_map}
 use Rattle.std.proofs.lemmas.Bool.Decides.{nat_tests}
 use Rattle.chest.specs.Places.{none}
-use Rattle.chest.specs.Meaning.{Meaning, Panel, Bounded, strobe_after}
+use Rattle.chest.specs.Meaning.{Meaning, Panel, Bounded, Becomes, strobe_after, with_register}
 use Rattle.console.specs.declared.keys.KeyTable.{KeyTable}
 use Rattle.console.specs.declared.knobs.KnobTable.{KnobTable}
 use Rattle.console.specs.declared.pistons.PistonTable.{PistonTable}
 use Rattle.console.specs.Keys.{no_keys}
 use Rattle.console.specs.KeyTable.{keys_of}
-use Rattle.console.specs.Knobs.{steps_of, home_of}
+use Rattle.console.specs.KnobTable.{home_of}
 use Rattle.console.specs.Pistons.{scope_of, frame_of}
 use Rattle.console.specs.Model.{Setup, Memory, first, all_home, memory}
 use Rattle.console.specs.Record.{Making}
 use Rattle.console.specs.Tracks.{Agrees, Sane, Makes, setup_of, stored_of}
-use Rattle.console.specs.Walks.{rows_out, knobs_turned}
-
--- every place of a chest is out
-rows_all : (m : Meaning) → Bounded m → (rows_out m 16).register ≡ none
-rows_all m bounded = λ i r p. one r p i where
-  one : (r p : ℕ) → (rows_out m 16).register r p ≡ false
-  one r p = let inside = bounded.register r p in let rows = bounded.rows r in grind (arith, nat_tests)
+use Rattle.console.specs.Walks.{knobs_turned}
 
 -- every knob is at home, and at 0 where it is undefined
-panel-all : (m : Meaning) (s : Setup) (knobs : KnobTable) → Bounded m → s.steps ≡ steps_of knobs.steps → s.home ≡ home_of knobs.homes → (knobs_turned m (λ k. true) (home_of knobs.homes) 64).panel ≡ all_home s
-panel-all m s knobs bounded is-steps is_home = λ i k. one k i where
-  one : (k : ℕ) → (knobs_turned m (λ k. true) (home_of knobs.homes) 64).panel k ≡ all_home s k
-  one k =
-      let past = bounded.knobs k in
-      let sound = knobs.sound k in
-      let steps : is_some (s.steps k) ≡ is_some (steps_of knobs.steps k) = ap (λ (f : ℕ → Option ℕ). is_some (f k)) is-steps in
-      let home : s.home k ≡ home_of knobs.homes k = ap (λ (f : ℕ → ℕ). f k) is_home in
-      grind (arith, nat_tests)
+panel-all : (m : Meaning) (reach : ℕ → ℕ) (knobs : KnobTable) (pistons : PistonTable) → Bounded m → (knobs_turned m (λ k. Some (home_of knobs k)) 64).panel ≡ all_home (setup_of reach knobs pistons)
+panel-all m reach knobs pistons bounded = λ i k. one k i where
+  one : (k : ℕ) → (knobs_turned m (λ k. Some (home_of knobs k)) 64).panel k ≡ all_home (setup_of reach knobs pistons) k
+  one k = let past = bounded.knobs k in grind (arith, nat_tests)
 
 -- the first model keeps what every model keeps
 first-sane : (s : Setup) → Sane (first s)
@@ -44,16 +33,15 @@ first-sane s = record { held = λ d k h. absurd (off h); stored = λ q k n m h e
 
 module _ {C : Type 0} {meaning : C → Meaning} {settled : C → Type 0} (quiet : (c : C) (panel : Panel) → (meaning c).rule panel none ≡ none) where
   -- cleared, turned home and strobed, the console stands as the first model
-  pub makes : (chest last : C) (knobs : KnobTable) (pistons released : PistonTable) (keys : KeyTable) → Bounded (meaning chest) → (settled chest → settled last × (meaning last ≡ strobe_after (knobs_turned (rows_out (meaning chest) 16) (λ k. true) (home_of knobs.homes) 64))) → ((q : ℕ) → scope_of released.pistons q ≡ scope_of pistons.pistons q) → ((q : ℕ) → frame_of released.pistons q ≡ None) → keys_of keys ≡ no_keys → Makes meaning settled chest knobs pistons (record { chest = last; knobs = knobs; pistons = released; keys = keys })
+  pub makes : (chest last : C) (knobs : KnobTable) (pistons released : PistonTable) (keys : KeyTable) → Bounded (meaning chest) → Becomes meaning settled chest last (strobe_after (knobs_turned (with_register (meaning chest) none) (λ k. Some (home_of knobs k)) 64)) → ((q : ℕ) → scope_of released q ≡ scope_of pistons q) → ((q : ℕ) → frame_of released q ≡ None) → keys_of keys ≡ no_keys → Makes meaning settled chest knobs pistons (record { chest = last; knobs = knobs; pistons = released; keys = keys })
   makes chest last knobs pistons released keys bounded walked scopes frames is-keys start =
       let m = meaning chest in
       let s = setup_of m.reach knobs pistons in
       let at = walked start in
-      let made : Meaning = strobe_after (knobs_turned (rows_out m 16) (λ k. true) (home_of knobs.homes) 64) in
-      let rows = rows_all m bounded in
-      let panel = panel-all m s knobs bounded refl refl in
-      let speaks : made.speaking ≡ m.rule (all_home s) none = λ i. m.rule (panel i) (rows i) in
-      let agrees : Agrees made (first s) = record { register = rows; panel = panel; speaks = speaks } in
+      let made : Meaning = strobe_after (knobs_turned (with_register m none) (λ k. Some (home_of knobs k)) 64) in
+      let panel = panel-all m m.reach knobs pistons bounded in
+      let speaks : made.speaking ≡ m.rule (all_home s) none = λ i. m.rule (panel i) none in
+      let agrees : Agrees made (first s) = record { register = refl; panel = panel; speaks = speaks } in
       let now : Meaning → Type 0 = λ x. Making s m x × Agrees x (first s) in
       let both : now made = (record { speaks = speaks; silence = speaks ∙ quiet chest (all_home s); strobes = refl; rule = refl; reach = refl }, agrees) in
       let done = subst now (sym at.1) both in

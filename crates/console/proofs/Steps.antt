@@ -1,8 +1,9 @@
 -- One call, over meanings and models: what a refused call and a done call show of the entry's law. Assumes nothing.
-use Rattle.std.proofs.Common.{◌≡◌, ℕ, true, false, cond, ◌&&◌, is_ok, IfErr, Ok, Err, Result, sym, refl, ap, ◌∙◌, subst, arith}
+use Rattle.std.proofs.Common.{◌≡◌, ℕ, true, false, cond, ◌&&◌, is_ok, IfErr, Some, None, Ok, Err, Option, Result, sym, refl, ap, ◌∙◌, subst, arith}
+use Rattle.std.specs.Option.{ok_or}
 use Rattle.std.proofs.lemmas.Bool.Decides.{nat_tests}
 use Rattle.chest.specs.Places.{Places, none, differ, changed}
-use Rattle.chest.specs.Meaning.{Meaning, Panel, next_strobe, strobe_after}
+use Rattle.chest.specs.Meaning.{Meaning, Panel, Becomes, next_strobe, strobe_after}
 use Rattle.console.specs.declared.call.Call.{Call}
 use Rattle.console.specs.declared.console.Console.{Console}
 use Rattle.console.specs.declared.fault.PlayFault.{PlayFault}
@@ -17,6 +18,11 @@ use Rattle.console.specs.Tracks.{Agrees, Sane, Tracks, setup_of}
 pub unchanged : {A B X : Type 0} (r : Result A B) (x : X) → IfErr r (λ e. x ≡ x)
 unchanged (Ok a) x = tt
 unchanged (Err e) x = refl
+
+-- the fault of what is missing
+pub missing : {A : Type 0} (o : Option A) (fault e : PlayFault) → Err fault ≡ ok_or o e → fault ≡ e
+missing None fault e is = cc
+missing (Some x) fault e is = cc
 
 -- at rest no key sounds
 rest-none : (p : Model) → Sane p → AtRest p → sounding p.keys ≡ none
@@ -72,7 +78,7 @@ module _ {C : Type 0} {meaning : C → Meaning} {settled : C → Type 0} (quiet 
     next = record { chest = last; knobs = c.knobs; pistons = c.pistons; keys = keys }
 
     -- a done call sets the keys and knobs as the model has them, and strobes
-    pub done-follows : settled mid × (meaning mid ≡ held (meaning c.chest) (done s p call)) → (settled mid → settled last × (meaning last ≡ strobe_after (meaning mid))) → n ≡ changed (meaning mid).speaking (meaning last).speaking → keys_of keys ≡ (done s p call).keys → (done s p call).stored ≡ p.stored → Sane (done s p call) → Tracks meaning settled next s (after s p call) × EntryLaw s (meaning c.chest) p (record { call = call; answer = Ok n; chest = meaning last })
+    pub done-follows : settled mid × (meaning mid ≡ held (meaning c.chest) (done s p call)) → Becomes meaning settled mid last (strobe_after (meaning mid)) → n ≡ changed (meaning mid).speaking (meaning last).speaking → keys_of keys ≡ (done s p call).keys → (done s p call).stored ≡ p.stored → Sane (done s p call) → Tracks meaning settled next s (after s p call) × EntryLaw s (meaning c.chest) p (record { call = call; answer = Ok n; chest = meaning last })
     done-follows set strobe count is-keys is-stored sane =
         let m = meaning c.chest in
         let then = strobe set.0 in

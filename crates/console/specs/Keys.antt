@@ -1,5 +1,5 @@
 -- The keys of a console: which are down, which are sustained, and which divisions' sustain is on. Assumes nothing.
-use Rattle.std.specs.Prelude.{ℕ, ◌+◌, ◌*◌, Bool, true, false, cond, ◌&&◌, ◌||◌, List, ◌==◌, nat_lt, slice_index_or}
+use Rattle.std.specs.Prelude.{ℕ, Bool, true, false, cond, ◌||◌, ◌==◌}
 use Rattle.chest.specs.Places.{Places, none, put}
 
 pub record Keys : Type 0 where
@@ -49,10 +49,3 @@ sustain_ended s d =
 abbrev pub cleared : Keys → ℕ → Keys
 cleared s d =
     record { down = without s.down d; sustained = without s.sustained d; sustain = switch s.sustain d false }
-
--- a table of 16 divisions of 128 keys, one after the other, as a set of keys
-abbrev pub key_at : List Bool → Places
-key_at table d k = nat_lt d 16 && (nat_lt k 128 && slice_index_or table (128 * d + k) false)
-
-abbrev pub switch_at : List Bool → ℕ → Bool
-switch_at table d = slice_index_or table d false

@@ -1,6 +1,7 @@
 pub mod Faults
 pub mod Keys
 pub mod Knobs
+pub mod KnobTable
 pub mod KeyTable
 pub mod Pistons
 pub mod Model

@@ -7,7 +7,7 @@ use Rattle.console.specs.declared.call.Call.{Call}
 use Rattle.console.specs.declared.call.Call.TheVariants.{Press, Lift, Sustain, Clear, Turn, Capture, Recall, Cancel}
 use Rattle.console.specs.declared.fault.PlayFault.{PlayFault}
 use Rattle.console.specs.declared.fault.PlayFault.TheVariants.{Division, Key, KeyDown, KeyUp, Knob, Position, Piston, NeverCaptured}
-use Rattle.console.specs.declared.pistons.Scope.{Scope}
+use Rattle.fittings.specs.declared.Scope.{Scope}
 use Rattle.console.specs.Keys.{Keys, no_keys, pressed, lifted, sustain_begun, sustain_ended, cleared}
 use Rattle.console.specs.Pistons.{within}
 

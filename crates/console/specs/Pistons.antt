@@ -1,20 +1,20 @@
 -- Tables of pistons: their scopes, and what was captured on them. Assumes nothing.
-use Rattle.std.specs.Prelude.{ℕ, Bool, false, cond, ◌&&◌, List, [], Some, None, Option, nat_le, nat_lt, slice_index_or}
+use Rattle.std.specs.Prelude.{ℕ, Bool, false, cond, ◌&&◌, List, Some, None, Option, nat_le, nat_lt, slice_index_or}
+use Rattle.std.specs.Option.{option_map, option_and_then}
+use Rattle.fittings.specs.declared.Scope.{Scope}
 use Rattle.console.specs.declared.pistons.Piston.{Piston}
-use Rattle.console.specs.declared.pistons.Scope.{Scope}
+use Rattle.console.specs.declared.pistons.PistonTable.{PistonTable}
 
--- a piston that is undefined and was never captured
-abbrev pub blank : Piston
-blank = record { scope = None; captured = false; positions = [] }
+abbrev pub piston_at : PistonTable → ℕ → Option Piston
+piston_at t q = cond (nat_lt q 40) (slice_index_or t.pistons q None) None
 
 -- the knobs that a piston takes, none where it is undefined
-abbrev pub scope_of : List Piston → ℕ → Option Scope
-scope_of pistons q = cond (nat_lt q 40) (slice_index_or pistons q blank).scope None
+abbrev pub scope_of : PistonTable → ℕ → Option Scope
+scope_of t q = option_map (λ piston. piston.scope) (piston_at t q)
 
 -- the positions that were captured, none where it never was
-abbrev pub frame_of : List Piston → ℕ → Option (List ℕ)
-frame_of pistons q =
-    cond (nat_lt q 40 && (slice_index_or pistons q blank).captured) (Some (slice_index_or pistons q blank).positions) None
+abbrev pub frame_of : PistonTable → ℕ → Option (List ℕ)
+frame_of t q = option_and_then (λ piston. piston.frame) (piston_at t q)
 
 -- whether a knob lies in a scope
 abbrev pub within : Option Scope → ℕ → Bool

@@ -8,7 +8,7 @@ use Rattle.console.specs.declared.knobs.KnobTable.{KnobTable}
 use Rattle.console.specs.declared.pistons.PistonTable.{PistonTable}
 use Rattle.console.specs.Keys.{sounding}
 use Rattle.console.specs.KeyTable.{keys_of}
-use Rattle.console.specs.Knobs.{steps_of, home_of}
+use Rattle.console.specs.KnobTable.{steps_of, home_of}
 use Rattle.console.specs.Pistons.{scope_of, frame_of}
 use Rattle.console.specs.Model.{Setup, Model, Memory, first, memory, after}
 use Rattle.console.specs.Record.{Answer, EntryLaw, Making, pipes_of}
@@ -16,11 +16,11 @@ use Rattle.console.specs.Record.{Answer, EntryLaw, Making, pipes_of}
 -- what a console is made from: the reaches of its chest, its knobs and its pistons
 abbrev pub setup_of : (ℕ → ℕ) → KnobTable → PistonTable → Setup
 setup_of reach knobs pistons =
-    record { reach = reach; steps = steps_of knobs.steps; home = home_of knobs.homes; scope = scope_of pistons.pistons }
+    record { reach = reach; steps = steps_of knobs; home = home_of knobs; scope = scope_of pistons }
 
 -- what a piston of the table stores
 abbrev pub stored_of : Setup → PistonTable → ℕ → Option Memory
-stored_of s t q = option_map (λ frame. memory s (λ k. slice_index frame k) q) (frame_of t.pistons q)
+stored_of s t q = option_map (λ frame. memory s (λ k. slice_index frame k) q) (frame_of t q)
 
 -- what holds of the model from the making on: only a sustain that is on holds keys, and only positions are stored
 pub record Sane (p : Model) : Type 0 where

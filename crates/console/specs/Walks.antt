@@ -1,16 +1,25 @@
--- What the console's walks over a chest leave. Assumes nothing.
-use Rattle.std.specs.Prelude.{ℕ, Bool, false, cond, ◌&&◌, ◌==◌, nat_lt}
-use Rattle.chest.specs.Places.{Places}
-use Rattle.chest.specs.Meaning.{Meaning, with_register, with_panel}
+-- What the console's walks over the knobs of a chest leave. Assumes nothing.
+use Rattle.std.specs.Prelude.{◌≡◌, ℕ, ◌<◌, cond, ◌&&◌, is_some, List, Some, None, Option, nat_lt, slice_index}
+use Rattle.std.specs.Option.{option_map, unwrap_or}
+use Rattle.fittings.specs.declared.Scope.{Scope}
+use Rattle.chest.specs.Meaning.{Meaning, with_panel}
+use Rattle.console.specs.declared.knobs.KnobTable.{KnobTable}
+use Rattle.console.specs.KnobTable.{knob_at, steps_of}
+use Rattle.console.specs.Pistons.{within}
 
--- the first n places of a row as in another set
-abbrev pub row_shown : Meaning → Places → ℕ → ℕ → Meaning
-row_shown m s row n = with_register m (λ r p. cond (r == row && nat_lt p n) (s r p) (m.register r p))
+-- those of the first n knobs that have a position to go to turned
+abbrev pub knobs_turned : Meaning → (ℕ → Option ℕ) → ℕ → Meaning
+knobs_turned m to n = with_panel m (λ k. unwrap_or (cond (nat_lt k n) (to k) None) (m.panel k))
 
--- the places of the first n rows out
-abbrev pub rows_out : Meaning → ℕ → Meaning
-rows_out m n = with_register m (λ r p. cond (nat_lt r n && nat_lt p (m.reach r)) false (m.register r p))
+-- what a rule answers of a knob is where it goes, and there is such a position
+pub record Turns (answers : ℕ → Option ℕ → Type 0) (to : ℕ → Option ℕ) : Type 0 where
+  pub told : (k : ℕ) (o : Option ℕ) → k < 64 → answers k o → o ≡ to k
+  pub positions : (k n : ℕ) → to k ≡ Some n → n < 16
 
--- those of the first n knobs that pass a test turned
-abbrev pub knobs_turned : Meaning → (ℕ → Bool) → (ℕ → ℕ) → ℕ → Meaning
-knobs_turned m test to n = with_panel m (λ k. cond (nat_lt k n && test k) (to k) (m.panel k))
+-- the homes of the defined knobs
+abbrev pub homes_of : KnobTable → ℕ → Option ℕ
+homes_of t k = option_map (λ knob. knob.home) (knob_at t k)
+
+-- the positions of a frame at the defined knobs of a scope
+abbrev pub frame_in : KnobTable → Scope → List ℕ → ℕ → Option ℕ
+frame_in t scope frame k = cond (is_some (steps_of t k) && within (Some scope) k) (Some (slice_index frame k)) None

@@ -1,6 +1,6 @@
 // What an organist can do at the console.
 
-#[derive(Clone, Copy)]
+#[derive(Clone, Copy, Debug, PartialEq)]
 pub enum Call {
     Press { division: usize, key: usize },
     Lift { division: usize, key: usize },

@@ -1,5 +1,5 @@
 // The console over any chest: its making and its eight calls.
-ghost use Rattle.std.specs.Prelude.{◌≡◌, ◌<◌, ◌≤◌, true, false, length, Ok, Err, OnErr, OnOk};
+ghost use Rattle.std.specs.Prelude.{◌≡◌, ◌<◌, ◌≤◌, true, false, length, Ok, Err, IfOk, IfErr, OnErr, OnOk};
 ghost use Rattle.console.specs.Model.{key_check};
 ghost use Rattle.console.specs.Sending.{Sends, StillTracks, Linked};
 ghost use Rattle.console.specs.Tracks.{Follows, Makes};
@@ -9,9 +9,11 @@ use crate::fault::PlayFault;
 use crate::keys::KeyTable;
 use crate::knobs::KnobTable;
 use crate::pistons::PistonTable;
-use crate::walks::*;
-use chest::chest::Chest;
+use crate::walks::{home_knobs, recall_knobs, reset_knobs};
+use chest::chest::{Chest, ROWS};
+use chest::place::Place;
 use chest::sender::Sender;
+use chest::walks::{clear, positions, show_row};
 
 #[derive(Drop)]
 pub struct Console<C: Chest> {
@@ -26,15 +28,14 @@ impl<C: Chest> Console<C> {
     pub fn new(mut chest: C, knobs: KnobTable, pistons: PistonTable) -> Console<C>
         ensures { Makes C.Chest.meaning C.Chest.settled chest knobs pistons result }
     {
-        clear_rows(&mut chest);
+        clear(&mut chest);
         reset_knobs(&mut chest, &knobs);
         let _ = chest.strobe();
-        let keys = KeyTable::new();
         Console {
             chest,
             knobs,
             pistons: pistons.released(),
-            keys,
+            keys: KeyTable::new(),
         }
     }
 
@@ -62,18 +63,22 @@ impl<C: Chest> Console<C> {
         &self.chest
     }
 
-    // Faults 1 and 2.
-    fn check_key(&self, division: usize, key: usize) -> Result<(), PlayFault>
-        ensures answer { result ≡ key_check (C.Chest.meaning self.now.chest).reach division key (Ok tt) }
-        ensures inside { OnOk result ((division < 16) × (key < (C.Chest.meaning self.now.chest).reach division) × (key < 128)) }
+    // A key that there is.
+    fn check_key(&self, division: usize, key: usize) -> Result<Place, PlayFault>
+        ensures refused { IfErr result (λ fault. key_check (C.Chest.meaning self.now.chest).reach division key (Ok tt) ≡ Err fault) }
+        ensures passed { IfOk result (λ at. (at.row ≡ division) × (at.place ≡ key) × (key < (C.Chest.meaning self.now.chest).reach division)) }
     {
-        let Ok(reach) = self.chest.reach(division) else {
-            return Err(PlayFault::Division { division });
-        };
+        let reach = self
+            .chest
+            .reach(division)
+            .map_err(|_| PlayFault::Division { division })?;
         if key >= reach {
             return Err(PlayFault::Key { division, key });
         }
-        Ok(())
+        Ok(Place {
+            row: division,
+            place: key,
+        })
     }
 
     // Presses a key.
@@ -81,11 +86,11 @@ impl<C: Chest> Console<C> {
         ensures follows { Follows C.Chest.meaning C.Chest.settled self.old (Call.Press division key) result self.new }
         ensures same { OnErr result (self.new ≡ self.old) }
     {
-        self.check_key(division, key)?;
-        if self.keys.is_down(division, key) {
+        let at = self.check_key(division, key)?;
+        if self.keys.is_down(at) {
             return Err(PlayFault::KeyDown { division, key });
         }
-        self.keys.press(division, key);
+        self.keys.press(at);
         let _ = self.chest.set(division, key, true);
         Ok(self.chest.strobe())
     }
@@ -95,12 +100,12 @@ impl<C: Chest> Console<C> {
         ensures follows { Follows C.Chest.meaning C.Chest.settled self.old (Call.Lift division key) result self.new }
         ensures same { OnErr result (self.new ≡ self.old) }
     {
-        self.check_key(division, key)?;
-        if !self.keys.is_down(division, key) {
+        let at = self.check_key(division, key)?;
+        if !self.keys.is_down(at) {
             return Err(PlayFault::KeyUp { division, key });
         }
-        self.keys.lift(division, key);
-        let sounds = self.keys.sounds(division, key);
+        self.keys.lift(at);
+        let sounds = self.keys.sounds(at);
         let _ = self.chest.set(division, key, sounds);
         Ok(self.chest.strobe())
     }
@@ -110,11 +115,11 @@ impl<C: Chest> Console<C> {
         ensures follows { Follows C.Chest.meaning C.Chest.settled self.old (Call.Sustain division on) result self.new }
         ensures same { OnErr result (self.new ≡ self.old) }
     {
-        if division >= 16 {
+        if division >= ROWS {
             return Err(PlayFault::Division { division });
         }
         self.keys.switch_sustain(division, on);
-        show_division(&mut self.chest, &self.keys, division);
+        show_row(&mut self.chest, division, |at| self.keys.sounds(at));
         Ok(self.chest.strobe())
     }
 
@@ -123,11 +128,11 @@ impl<C: Chest> Console<C> {
         ensures follows { Follows C.Chest.meaning C.Chest.settled self.old (Call.Clear division) result self.new }
         ensures same { OnErr result (self.new ≡ self.old) }
     {
-        if division >= 16 {
+        if division >= ROWS {
             return Err(PlayFault::Division { division });
         }
         self.keys.clear(division);
-        show_division(&mut self.chest, &self.keys, division);
+        show_row(&mut self.chest, division, |at| self.keys.sounds(at));
         Ok(self.chest.strobe())
     }
 
@@ -136,9 +141,7 @@ impl<C: Chest> Console<C> {
         ensures follows { Follows C.Chest.meaning C.Chest.settled self.old (Call.Turn knob position) result self.new }
         ensures same { OnErr result (self.new ≡ self.old) }
     {
-        let Some(steps) = self.knobs.steps(knob) else {
-            return Err(PlayFault::Knob { knob });
-        };
+        let steps = self.knobs.steps(knob).ok_or(PlayFault::Knob { knob })?;
         if position >= steps {
             return Err(PlayFault::Position { knob, position });
         }
@@ -151,10 +154,10 @@ impl<C: Chest> Console<C> {
         ensures follows { Follows C.Chest.meaning C.Chest.settled self.old (Call.Capture piston) result self.new }
         ensures same { OnErr result (self.new ≡ self.old) }
     {
-        let Some(_) = self.pistons.scope(piston) else {
-            return Err(PlayFault::Piston { piston });
-        };
-        let positions = read_knobs(&self.chest);
+        self.pistons
+            .scope(piston)
+            .ok_or(PlayFault::Piston { piston })?;
+        let positions = positions(&self.chest);
         self.pistons.store(piston, positions);
         Ok(0)
     }
@@ -164,12 +167,14 @@ impl<C: Chest> Console<C> {
         ensures follows { Follows C.Chest.meaning C.Chest.settled self.old (Call.Recall piston) result self.new }
         ensures same { OnErr result (self.new ≡ self.old) }
     {
-        let Some(scope) = self.pistons.scope(piston) else {
-            return Err(PlayFault::Piston { piston });
-        };
-        let Some(frame) = self.pistons.frame(piston) else {
-            return Err(PlayFault::NeverCaptured { piston });
-        };
+        let scope = self
+            .pistons
+            .scope(piston)
+            .ok_or(PlayFault::Piston { piston })?;
+        let frame = self
+            .pistons
+            .frame(piston)
+            .ok_or(PlayFault::NeverCaptured { piston })?;
         recall_knobs(&mut self.chest, &self.knobs, scope, &frame);
         Ok(self.chest.strobe())
     }

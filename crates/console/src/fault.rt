@@ -2,7 +2,7 @@
 ghost use Rattle.std.specs.Prelude.{◌≡◌};
 ghost use Rattle.console.specs.Faults.{number_of};
 
-#[derive(Clone, Copy)]
+#[derive(Clone, Copy, Debug, PartialEq)]
 pub enum PlayFault {
     // The division is 16 or more.
     Division { division: usize },
@@ -27,26 +27,14 @@ impl PlayFault {
         ensures { result ≡ number_of self }
     {
         match self {
-            PlayFault::Division { division: _ } => 1,
-            PlayFault::Key {
-                division: _,
-                key: _,
-            } => 2,
-            PlayFault::KeyDown {
-                division: _,
-                key: _,
-            } => 3,
-            PlayFault::KeyUp {
-                division: _,
-                key: _,
-            } => 4,
-            PlayFault::Knob { knob: _ } => 5,
-            PlayFault::Position {
-                knob: _,
-                position: _,
-            } => 6,
-            PlayFault::Piston { piston: _ } => 7,
-            PlayFault::NeverCaptured { piston: _ } => 8,
+            PlayFault::Division { .. } => 1,
+            PlayFault::Key { .. } => 2,
+            PlayFault::KeyDown { .. } => 3,
+            PlayFault::KeyUp { .. } => 4,
+            PlayFault::Knob { .. } => 5,
+            PlayFault::Position { .. } => 6,
+            PlayFault::Piston { .. } => 7,
+            PlayFault::NeverCaptured { .. } => 8,
         }
     }
 }

@@ -1,22 +1,25 @@
 -- The answers for `Console::turn`.
-use Rattle.std.proofs.Common.{sym, refl, ap, ◌∙◌, arith}
+use Rattle.std.proofs.Common.{◌≡◌, ◌<◌, ◌≤◌, Some, None, Err, sym, refl, ap, ◌∙◌, arith}
+use Rattle.std.proofs.lemmas.Result.{err_from_is_err_and}
 use Rattle.chest.specs.Meaning.{Panel, with_panel, knob_to}
 use Rattle.chest.proofs.Calls.{turn_done}
 use Rattle.console.specs.declared.call.Call.TheVariants.{Turn}
 use Rattle.console.specs.declared.fault.PlayFault.TheVariants.{Knob, Position}
 use Rattle.console.specs.Model.{knob_check}
-use Rattle.console.proofs.Steps.{refused_follows}
+use Rattle.console.proofs.Steps.{refused_follows, unchanged, missing}
 use Rattle.console.proofs.Follow.{panel-follows}
 use Rattle.console.proofs.Panels.{knob_passes, knob_fails}
 use Rattle.console.proofs.console.Console.turn.Goals as goal
 
-pub returns-in_default : goal.returns-in_default
-returns-in_default g c =
+pub returns-in_err-steps : goal.returns-in_err-steps
+returns-in_err-steps g c =
     let k = c.args.knob in
     let q = c.args.position in
+    let e = err_from_is_err_and c.from_residual.result c.from_residual.ensures.1 in
+    let fault = missing c.steps.result c.in_err-steps.field-0.0 (Knob k) c.in_err-steps.ensures.value in
     record {
-      follows = λ s p t. refused_follows g.met.C.Chest.quiet (Turn k q) (Knob k) _ t refl (ap (λ o. knob_check o k q) (sym (ap (λ x. x.steps k) t.setup) ∙ sym c.in_default.ensures.value));
-      same = refl;
+      follows = λ s p t. refused_follows g.met.C.Chest.quiet (Turn k q) (Knob k) _ t (e.1 ∙ ap Err (e.2 ∙ fault)) (ap (λ o. knob_check o k q) (sym (ap (λ x. x.steps k) t.setup) ∙ sym c.steps.ensures.value ∙ c.in_err-steps.ensures.ok_part));
+      same = unchanged c.from_residual.result c.args.self.now;
     }
 
 pub returns-then-position-steps : goal.returns-then-position-steps
@@ -24,7 +27,7 @@ returns-then-position-steps g c =
     let k = c.args.knob in
     let q = c.args.position in
     record {
-      follows = λ s p t. refused_follows g.met.C.Chest.quiet (Turn k q) (Position k q) _ t refl (knob_fails (s.steps k) k q c.in-Some.steps (sym (ap (λ x. x.steps k) t.setup) ∙ sym c.in-Some.ensures.value) c.if-position-steps.true);
+      follows = λ s p t. refused_follows g.met.C.Chest.quiet (Turn k q) (Position k q) _ t refl (knob_fails (s.steps k) k q c.in_ok-steps.steps (sym (ap (λ x. x.steps k) t.setup) ∙ sym c.steps.ensures.value ∙ c.in_ok-steps.ensures.ok_part) c.if-position-steps.true);
       same = refl;
     }
 
@@ -33,12 +36,11 @@ returns g c =
     let k = c.args.knob in
     let q = c.args.position in
     let m = g.C.Chest.meaning c.args.self.now.chest in
-    let low = c.in-Some.ensures.bound in
+    let low : (k < 64) × (c.in_ok-steps.steps ≤ 16) = rw c.in_ok-steps.ensures.ok_part at c.steps.ensures.bound in
     let done = turn_done m k q low.0 (omega arith) in
     record {
       follows = λ s p t.
-          let passes = knob_passes (s.steps k) k q c.in-Some.steps (sym (ap (λ x. x.steps k) t.setup) ∙ sym c.in-Some.ensures.value) c.if-position-steps.false in
-          let turned = c.turn.ensures.after t.steady in
-          panel-follows g.met.C.Chest.quiet (Turn k q) c.strobe.result c.args.self.now.keys c.turn.new.self c.strobe.new.self t passes refl c.strobe.ensures.after c.strobe.ensures.answer (knob_to p.panel k q) refl refl (turned.0, turned.1 ∙ done ∙ ap (λ (f : Panel). with_panel m (knob_to f k q)) t.agrees.panel);
+          let passes = knob_passes (s.steps k) k q c.in_ok-steps.steps (sym (ap (λ x. x.steps k) t.setup) ∙ sym c.steps.ensures.value ∙ c.in_ok-steps.ensures.ok_part) c.if-position-steps.false in
+          panel-follows g.met.C.Chest.quiet (Turn k q) c.strobe.result c.args.self.now.keys c.turn.new.self c.strobe.new.self t passes refl c.strobe.ensures.after c.strobe.ensures.answer (knob_to p.panel k q) refl refl c.turn.ensures.after (done ∙ ap (λ (f : Panel). with_panel m (knob_to f k q)) t.agrees.panel);
       same = tt;
     }

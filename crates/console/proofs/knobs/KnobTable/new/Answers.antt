@@ -1,10 +1,15 @@
-use Rattle.std.proofs.Common.{ap}
-use Rattle.console.specs.Knobs.{blank_or_sound}
-use Rattle.console.proofs.Blank.{getD_blank}
+use Rattle.std.proofs.Common.{◌≡◌, true, None, Option, refl, arith}
+use Rattle.std.proofs.lemmas.Bool.Decides.{nat_tests}
+use Rattle.fittings.specs.declared.Knob.{Knob}
+use Rattle.console.specs.Knobs.{undefined_or_sound}
+use Rattle.console.proofs.Blank.{replicated, blank}
 use Rattle.console.proofs.knobs.KnobTable.new.Goals as goal
 
 pub invariant_of-result : goal.invariant_of-result
-invariant_of-result c = record { sound = λ k. ap (λ n. blank_or_sound n n) (getD_blank 64 k 0) }
+invariant_of-result c = record { each = λ k. replicated (λ o. undefined_or_sound o ≡ true) 64 k None None refl refl }
 
-pub returns : goal.returns
-returns c = record { steps = λ k. getD_blank 64 k 0; homes = λ k. getD_blank 64 k 0 }
+pub returns-clause-steps : goal.returns-clause-steps
+returns-clause-steps c = λ k. let none = blank {A = Option Knob} 64 k None in grind (arith, nat_tests)
+
+pub returns-clause-homes : goal.returns-clause-homes
+returns-clause-homes c = λ k. let none = blank {A = Option Knob} 64 k None in grind (arith, nat_tests)
