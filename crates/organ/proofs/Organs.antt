@@ -8,7 +8,7 @@ use Rattle.board.specs.Board.{meaning_of, Settled}
 use Rattle.console.specs.declared.console.Console.{Console}
 use Rattle.console.specs.declared.knobs.KnobTable.{KnobTable}
 use Rattle.console.specs.declared.pistons.PistonTable.{PistonTable}
-use Rattle.console.specs.Knobs.{steps_of, home_of}
+use Rattle.console.specs.KnobTable.{steps_of, home_of}
 use Rattle.console.specs.Pistons.{scope_of}
 use Rattle.console.specs.Model.{first}
 use Rattle.console.specs.Record.{Making}
@@ -22,9 +22,14 @@ module _ {C : Type 0} (meaning : C → Meaning) (settled : C → Type 0) (b : Bo
   abbrev stack_means : RelayBoard (RelayBoard C) → Meaning
   stack_means = meaning_of (meaning_of meaning)
 
-  pub opens : (h : Result Hung Refusal) → Assembles meaning settled (keys_in b) m h (Ok stack) → Makes stack_means (Settled (meaning_of meaning) (Settled meaning settled)) stack knobs pistons c → ((k : ℕ) → steps_of knobs.steps k ≡ book_steps b k) → ((k : ℕ) → home_of knobs.homes k ≡ book_home b k) → ((q : ℕ) → scope_of pistons.pistons q ≡ book_scope b q) → Opens meaning settled b m h (Ok c)
+  pub opens : (h : Result Hung Refusal) → Assembles meaning settled (keys_in b) m h (Ok stack) → Makes stack_means (Settled (meaning_of meaning) (Settled meaning settled)) stack knobs pistons c → ((k : ℕ) → steps_of knobs k ≡ book_steps b k) → ((k : ℕ) → home_of knobs k ≡ book_home b k) → ((q : ℕ) → scope_of pistons q ≡ book_scope b q) → Opens meaning settled b m h (Ok c)
   opens (Ok h) made makes steps homes scopes =
       let done = makes made.0 in
       let setup : setup_of (stack_means stack).reach knobs pistons ≡ book_setup b = λ i. record { reach = (made.1 i).reach; steps = λ k. steps k i; home = λ k. homes k i; scope = λ q. scopes q i } in
       (subst (λ x. Making x (stack_meaning (keys_in b) m h) (organ_meaning meaning settled c)) setup (subst (λ x. Making (setup_of (stack_means stack).reach knobs pistons) x (organ_meaning meaning settled c)) made.1 done.0), subst (λ x. OrganTracks meaning settled c x (first x)) setup done.1)
   opens (Err e) made makes steps homes scopes = absurd made
+
+-- a stack that is refused opens no console
+pub refuses : {C : Type 0} (meaning : C → Meaning) (settled : C → Type 0) (b : Book) (m : Meaning) (h : Result Hung Refusal) (e : Refusal) → Assembles meaning settled (keys_in b) m h (Err e) → Opens meaning settled b m h (Err e)
+refuses meaning settled b m (Ok h) e made = absurd made
+refuses meaning settled b m (Err f) e made = made

@@ -9,12 +9,13 @@ use Rattle.board.specs.declared.fault.BoardFault.{BoardFault}
 use Rattle.board.specs.Wires.{Reaches}
 use Rattle.board.specs.Layout.{Layout, with_wire}
 use Rattle.board.specs.Fitting.{fit_answer, lead_of}
-use Rattle.organ.specs.Assembly.{offer_of, is_on, unless_refused, fit_run}
+use Rattle.book.specs.Asking.{same_board}
+use Rattle.organ.specs.Assembly.{unless_refused, fit_run}
 
 -- what a list of wires is read at past its end
 abbrev pub blank : BookWire
 blank =
-    record { line = 0; wire = record { board = Coupler; from = 0; lowest = 0; highest = 0; to = 0; shift = pos 0; knob = 0; position = 0 } }
+    record { line = 0; board = Coupler; wire = record { from = 0; lowest = 0; highest = 0; to = 0; shift = pos 0; knob = 0; position = 0 } }
 
 -- one wire of a list: passed over, fitted, or refused
 module _ (on : Board) (m : Meaning) (l : Layout) (ws : List BookWire) (n : ℕ) (h : n < length ws) where
@@ -25,21 +26,21 @@ module _ (on : Board) (m : Meaning) (l : Layout) (ws : List BookWire) (n : ℕ) 
   rest = drop (n + 1) ws
 
   abbrev next : Layout
-  next = with_wire l (lead_of (offer_of here.wire))
+  next = with_wire l (lead_of here.wire)
 
-  step : (b : Bool) → is_on on here.wire.board ≡ b → fit_run on m l (drop n ws) ≡ cond b (unless_refused (fit_answer l m (offer_of here.wire)) here.line (fit_run on m next rest)) (fit_run on m l rest)
+  step : (b : Bool) → same_board on here.board ≡ b → fit_run on m l (drop n ws) ≡ cond b (unless_refused (fit_answer l m here.wire) here.line (fit_run on m next rest)) (fit_run on m l rest)
   step b e =
       ap (fit_run on m l) (drop_more ws n blank h)
-      ∙ ap (λ x. cond x (unless_refused (fit_answer l m (offer_of here.wire)) here.line (fit_run on m next rest)) (fit_run on m l rest)) e
+      ∙ ap (λ x. cond x (unless_refused (fit_answer l m here.wire) here.line (fit_run on m next rest)) (fit_run on m l rest)) e
 
-  pub skip_here : is_on on here.wire.board ≡ false → fit_run on m l (drop n ws) ≡ fit_run on m l rest
+  pub skip_here : same_board on here.board ≡ false → fit_run on m l (drop n ws) ≡ fit_run on m l rest
   skip_here e = step false e
 
-  pub fit_here : (l' : Layout) → is_on on here.wire.board ≡ true → fit_answer l m (offer_of here.wire) ≡ Ok tt → l' ≡ with_wire l (lead_of (offer_of here.wire)) → fit_run on m l (drop n ws) ≡ fit_run on m l' rest
+  pub fit_here : (l' : Layout) → same_board on here.board ≡ true → fit_answer l m here.wire ≡ Ok tt → l' ≡ with_wire l (lead_of here.wire) → fit_run on m l (drop n ws) ≡ fit_run on m l' rest
   fit_here l' e a is =
       step true e ∙ ap (λ x. unless_refused x here.line (fit_run on m next rest)) a ∙ ap (λ x. fit_run on m x rest) (sym is)
 
-  pub stop_here : (fault : BoardFault) → is_on on here.wire.board ≡ true → fit_answer l m (offer_of here.wire) ≡ Err fault → fit_run on m l (drop n ws) ≡ Err (record { line = here.line; fault = fault })
+  pub stop_here : (fault : BoardFault) → same_board on here.board ≡ true → fit_answer l m here.wire ≡ Err fault → fit_run on m l (drop n ws) ≡ Err (record { line = here.line; fault = fault })
   stop_here fault e a = step true e ∙ ap (λ x. unless_refused x here.line (fit_run on m next rest)) a
 
 -- and past the last
@@ -55,5 +56,5 @@ pub run_reach : (on : Board) (m n : Meaning) → m.reach ≡ n.reach → (l : La
 unfolding with_reach
 run_reach on m n e l [] = refl
 run_reach on m n e l (w ∷ ws) =
-    let answer : fit_answer l m (offer_of w.wire) ≡ fit_answer l n (offer_of w.wire) = λ i. fit_answer l (with_reach m (e i)) (offer_of w.wire) in
-    λ i. cond (is_on on w.wire.board) (unless_refused (answer i) w.line (run_reach on m n e (with_wire l (lead_of (offer_of w.wire))) ws i)) (run_reach on m n e l ws i)
+    let answer : fit_answer l m w.wire ≡ fit_answer l n w.wire = λ i. fit_answer l (with_reach m (e i)) w.wire in
+    λ i. cond (same_board on w.board) (unless_refused (answer i) w.line (run_reach on m n e (with_wire l (lead_of w.wire)) ws i)) (run_reach on m n e l ws i)

@@ -1,5 +1,6 @@
 -- Two boards over a chest: what their runs of wires come to, and what the stack means. Assumes nothing.
-use Rattle.std.proofs.Common.{◌≡◌, ℕ, Bool, true, false, cond, ltb, List, [], ◌∷◌, Ok, Err, Result, sym, refl, ap, ◌∙◌, subst, MatchResult}
+use Rattle.std.proofs.Common.{◌≡◌, ℕ, ◌<◌, ◌≤◌, get_or, arith, Bool, true, false, cond, ltb, List, [], ◌∷◌, Ok, Err, Result, sym, refl, ap, ◌∙◌, subst, MatchResult}
+use Rattle.std.proofs.lemmas.Bool.Decides.{nat_tests}
 use Rattle.chest.specs.Places.{none}
 use Rattle.chest.specs.Meaning.{Meaning, with_register}
 use Rattle.book.specs.declared.forms.Board.{Board}
@@ -14,8 +15,18 @@ use Rattle.board.specs.Board.{board_meaning, meaning_of, Settled}
 use Rattle.board.specs.Fitting.{fit_answer, lead_of}
 use Rattle.board.specs.Making.{new_layout}
 use Rattle.organ.specs.declared.assembly.Refusal.{Refusal}
-use Rattle.organ.specs.Assembly.{offer_of, is_on, unless_refused, fit_run, Hung, both, earlier_of, hang_all, stop_layout, stop_meaning, coupler_layout, stack_meaning, Hangs, Assembles}
+use Rattle.book.specs.Asking.{same_board}
+use Rattle.organ.specs.Assembly.{unless_refused, fit_run, Hung, both, earlier_of, hang_all, stop_layout, stop_meaning, coupler_layout, stack_meaning, Assembles}
 use Rattle.organ.proofs.Runs.{run_reach}
+
+-- a table of reaches that are wanted
+pub reaches_held : (table : List ℕ) (want : Reaches) → ((r : ℕ) → r < 16 → (get_or table r 0 ≡ want r) × (get_or table r 0 ≤ 128)) → ((r : ℕ) → 16 ≤ r → want r ≡ 0) → reach_of table ≡ want
+reaches_held table want there past = λ i r. one r i where
+  one : (r : ℕ) → reach_of table r ≡ want r
+  one r =
+      let is = there r in
+      let none = past r in
+      grind (arith, nat_tests)
 
 abbrev with_wires : Layout → List Lead → Layout
 with_wires l ws = record { reach = l.reach; below = l.below; wires = ws; panel = l.panel; register = l.register }
@@ -37,8 +48,8 @@ keeps_either l false a line x y k j = j
 keeps_run : (on : Board) (m : Meaning) (l : Layout) (ws : List BookWire) → Keeps l (fit_run on m l ws)
 keeps_run on m l [] = refl
 keeps_run on m l (w ∷ ws) =
-    let lead = lead_of (offer_of w.wire) in
-    keeps_either l (is_on on w.wire.board) (fit_answer l m (offer_of w.wire)) w.line (fit_run on m (with_wire l lead) ws) (fit_run on m l ws) (keeps_one l lead (fit_run on m (with_wire l lead) ws) (keeps_run on m (with_wire l lead) ws)) (keeps_run on m l ws)
+    let lead = lead_of w.wire in
+    keeps_either l (same_board on w.board) (fit_answer l m w.wire) w.line (fit_run on m (with_wire l lead) ws) (fit_run on m l ws) (keeps_one l lead (fit_run on m (with_wire l lead) ws) (keeps_run on m (with_wire l lead) ws)) (keeps_run on m l ws)
 
 -- a run that ends well
 run_wires : (on : Board) (m : Meaning) (l l' : Layout) (ws : List BookWire) → fit_run on m l ws ≡ Ok l' → l' ≡ with_wires l l'.wires
@@ -73,6 +84,12 @@ module _ (keys : Reaches) (m : Meaning) (ws : List BookWire) where
       let lc = run_wires Coupler (stop_meaning keys m []) (coupler_layout keys m []) couplers ws c in
       let ls = run_wires Stop m (stop_layout keys m []) stops ws s in
       (λ i. board_meaning (lc i) (b i)) ∙ (λ i. board_meaning (coupler_layout keys m couplers.wires) (with_register (board_meaning (ls i) (f i)) none))
+
+-- both boards took their wires and the stack is settled, or just the first refusal
+module _ {C : Type 0} (meaning : C → Meaning) (settled : C → Type 0) where
+  abbrev pub Hangs : Reaches → Meaning → Result Hung Refusal → RelayBoard (RelayBoard C) → Result Unit Refusal → Type 0
+  Hangs keys m h s (Ok x) = Assembles meaning settled keys m h (Ok s)
+  Hangs keys m h s (Err e) = Assembles meaning settled keys m h (Err e)
 
 -- the runs of the boards that assembling makes and fits, from what each of its calls promises
 pub record Runs {C : Type 0} (meaning : C → Meaning) (settled : C → Type 0) (keys : Reaches) (m : Meaning) (ws : List BookWire) (s0 s1 : RelayBoard C) (c0 c1 : RelayBoard (RelayBoard C)) : Type 0 where
@@ -116,18 +133,8 @@ module _ {C : Type 0} {meaning : C → Meaning} {settled : C → Type 0} (keys :
       same true = refl
       same false = refl
 
--- the same of what the call returns
-pub assembles : {C : Type 0} (meaning : C → Meaning) (settled : C → Type 0) (keys : Reaches) (m : Meaning) (h : Result Hung Refusal) (s : RelayBoard (RelayBoard C)) → Hangs meaning settled keys m h s (Ok tt) → Assembles meaning settled keys m h (Ok s)
-assembles meaning settled keys m (Ok h) s k = k
-assembles meaning settled keys m (Err e) s k = k
-
-pub refuses : {C : Type 0} (meaning : C → Meaning) (settled : C → Type 0) (keys : Reaches) (m : Meaning) (h : Result Hung Refusal) (s : RelayBoard (RelayBoard C)) (e : Refusal) → Hangs meaning settled keys m h s (Err e) → Assembles meaning settled keys m h (Err e)
-refuses meaning settled keys m (Ok h) s e k = k
-refuses meaning settled keys m (Err f) s e k = k
-
--- the same for equal keys, wires and verdicts
-pub hangs_as : {C : Type 0} (meaning : C → Meaning) (settled : C → Type 0) (m : Meaning) (s : RelayBoard (RelayBoard C)) (keys keys' : Reaches) (ws ws' : List BookWire) (v v' : Result Unit Refusal) → keys ≡ keys' → ws ≡ ws' → v ≡ v' → Hangs meaning settled keys m (hang_all keys m ws) s v → Hangs meaning settled keys' m (hang_all keys' m ws') s v'
-hangs_as meaning settled m s keys keys' ws ws' v v' k w e h =
-    subst (λ x. Hangs meaning settled keys' m (hang_all keys' m ws') s x) e
-    (subst (λ x. Hangs meaning settled keys' m (hang_all keys' m x) s v) w
-    (subst (λ x. Hangs meaning settled x m (hang_all x m ws) s v) k h))
+-- the same for equal keys and wires
+pub assembles_as : {C : Type 0} (meaning : C → Meaning) (settled : C → Type 0) (m : Meaning) (keys keys' : Reaches) (ws ws' : List BookWire) (r : Result (RelayBoard (RelayBoard C)) Refusal) → keys ≡ keys' → ws ≡ ws' → Assembles meaning settled keys m (hang_all keys m ws) r → Assembles meaning settled keys' m (hang_all keys' m ws') r
+assembles_as meaning settled m keys keys' ws ws' r k w h =
+    subst (λ x. Assembles meaning settled keys' m (hang_all keys' m x) r) w
+    (subst (λ x. Assembles meaning settled x m (hang_all x m ws) r) k h)

@@ -1,15 +1,14 @@
 -- The stack that a book's wires make: coupler board over stop board over a bottom chest. Assumes nothing.
-use Rattle.std.specs.Prelude.{◌≡◌, ℕ, Bool, true, false, cond, List, [], ◌∷◌, Ok, Err, Result, nat_lt}
+use Rattle.std.specs.Prelude.{◌≡◌, ℕ, cond, List, [], ◌∷◌, Ok, Err, Result, nat_lt}
 use Rattle.chest.specs.Places.{none}
 use Rattle.chest.specs.Meaning.{Meaning}
 use Rattle.book.specs.declared.forms.Board.{Board}
 use Rattle.book.specs.declared.forms.Board.TheVariants.{Coupler, Stop}
-use Rattle.book.specs.declared.forms.Wire.{Wire as Written}
 use Rattle.book.specs.declared.record.BookWire.{BookWire}
+use Rattle.book.specs.Asking.{same_board}
 use Rattle.board.specs.declared.board.RelayBoard.{RelayBoard}
 use Rattle.board.specs.declared.fault.BoardFault.{BoardFault}
 use Rattle.board.specs.declared.wire.Lead.{Lead}
-use Rattle.board.specs.declared.wire.Wire.{Wire}
 use Rattle.board.specs.Wires.{Reaches, image}
 use Rattle.board.specs.Layout.{Layout, with_wire}
 use Rattle.board.specs.Board.{board_meaning, meaning_of, Settled}
@@ -20,18 +19,6 @@ use Rattle.organ.specs.declared.assembly.Refusal.{Refusal}
 abbrev pub refusal_number : Refusal → ℕ
 refusal_number r = 37
 
--- a wire as the book writes it, offered to a board
-abbrev pub offer_of : Written → Wire
-offer_of w =
-    record { from = w.from; lowest = w.lowest; highest = w.highest; to = w.to; shift = w.shift; knob = w.knob; position = w.position }
-
--- whether a wire is for a board
-abbrev pub is_on : Board → Board → Bool
-is_on Coupler Coupler = true
-is_on Coupler Stop = false
-is_on Stop Coupler = false
-is_on Stop Stop = true
-
 abbrev pub unless_refused : Result Unit BoardFault → ℕ → Result Layout Refusal → Result Layout Refusal
 unless_refused (Ok x) line rest = rest
 unless_refused (Err e) line rest = Err (record { line = line; fault = e })
@@ -40,7 +27,7 @@ unless_refused (Err e) line rest = Err (record { line = line; fault = e })
 abbrev pub fit_run : Board → Meaning → Layout → List BookWire → Result Layout Refusal
 fit_run on m l [] = Ok l
 fit_run on m l (w ∷ ws) =
-    cond (is_on on w.wire.board) (unless_refused (fit_answer l m (offer_of w.wire)) w.line (fit_run on m (with_wire l (lead_of (offer_of w.wire))) ws)) (fit_run on m l ws)
+    cond (same_board on w.board) (unless_refused (fit_answer l m w.wire) w.line (fit_run on m (with_wire l (lead_of w.wire)) ws)) (fit_run on m l ws)
 
 -- the wires of both boards, or the refusal on the earlier line
 pub record Hung : Type 0 where
@@ -90,14 +77,6 @@ module _ (keys : Reaches) (m : Meaning) where
       }
 
 module _ {C : Type 0} (meaning : C → Meaning) (settled : C → Type 0) where
-  -- both boards took their wires and the stack is settled, or just the first refusal
-  abbrev pub Hangs : Reaches → Meaning → Result Hung Refusal → RelayBoard (RelayBoard C) → Result Unit Refusal → Type 0
-  Hangs keys m (Ok h) s (Ok x) =
-      Settled (meaning_of meaning) (Settled meaning settled) s × (meaning_of (meaning_of meaning) s ≡ stack_meaning keys m h)
-  Hangs keys m (Ok h) s (Err e) = ⊥
-  Hangs keys m (Err e) s (Ok x) = ⊥
-  Hangs keys m (Err e) s (Err f) = f ≡ e
-
   -- the settled stack of all wires, or just the first refusal
   abbrev pub Assembles : Reaches → Meaning → Result Hung Refusal → Result (RelayBoard (RelayBoard C)) Refusal → Type 0
   Assembles keys m (Ok h) (Ok s) =

@@ -5,3 +5,4 @@ pub mod Tables
 pub mod Opening
 pub mod Responses
 pub mod Lines
+pub mod Refused

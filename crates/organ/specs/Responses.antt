@@ -7,6 +7,7 @@ use Rattle.console.specs.Record.{Answer}
 use Rattle.console.specs.Tracks.{Follows}
 use Rattle.organ.specs.declared.action.Action.{Action}
 use Rattle.organ.specs.declared.action.Action.TheVariants.{Nothing, Perform, LowNote}
+use Rattle.organ.specs.declared.response.OutOfMemory.{OutOfMemory}
 use Rattle.organ.specs.declared.listing.Line.{Line}
 use Rattle.organ.specs.declared.listing.Line.TheVariants.{Done, Fault}
 use Rattle.organ.specs.Listing.{line_bytes}
@@ -24,6 +25,6 @@ Responds meaning settled (Perform call) c d before after =
 Responds meaning settled (LowNote division note) c d before after = (d ≡ c) × (after ≡ before ++ line_bytes (Fault 2))
 
 -- how many messages were answered: all of them, or those before the one that found no memory
-abbrev pub until : Result Unit ℕ → ℕ → ℕ
+abbrev pub until : Result Unit OutOfMemory → ℕ → ℕ
 until (Ok x) all = all
-until (Err n) all = n
+until (Err e) all = e.answered

@@ -3,7 +3,7 @@ use Rattle.std.specs.Prelude.{ℕ, Option}
 use Rattle.std.specs.Option.{option_map, unwrap_or}
 use Rattle.book.specs.declared.record.Book.{Book}
 use Rattle.book.specs.Asking.{knob_in, scope_in}
-use Rattle.console.specs.declared.pistons.Scope.{Scope}
+use Rattle.fittings.specs.declared.Scope.{Scope}
 
 -- the steps of a knob, none where the book does not define it; its home, 0 where it has none
 abbrev pub book_steps : Book → ℕ → Option ℕ
@@ -14,4 +14,4 @@ book_home b k = unwrap_or (option_map (λ q. q.home) (knob_in b k)) 0
 
 -- the knobs that a piston takes, none where the book does not define it
 abbrev pub book_scope : Book → ℕ → Option Scope
-book_scope b p = option_map (λ s. record { lowest = s.lowest; highest = s.highest }) (scope_in b p)
+book_scope = scope_in

@@ -18,7 +18,7 @@ const CLEAR: u8 = 123;
 
 const KNOBS: u8 = 64;
 
-#[derive(Clone, Copy)]
+#[derive(Clone, Copy, Debug, PartialEq)]
 pub enum Action {
     Nothing,
     Perform(Call),
@@ -30,14 +30,14 @@ pub enum Action {
 fn key_action(division: u8, note: u8, down: bool) -> Action
     ensures { result ≡ key_action division note down }
 {
-    let division = division as usize;
+    let division = usize::from(division);
     if note < LOWEST_NOTE {
         return Action::LowNote {
             division,
-            note: note as usize,
+            note: usize::from(note),
         };
     }
-    let key = (note - LOWEST_NOTE) as usize;
+    let key = usize::from(note - LOWEST_NOTE);
     if down {
         Action::Perform(Call::Press { division, key })
     } else {
@@ -55,7 +55,7 @@ fn note_setting(note: u8, velocity: u8) -> Action
         Action::Perform(Call::Cancel)
     } else {
         Action::Perform(Call::Capture {
-            piston: note as usize,
+            piston: usize::from(note),
         })
     }
 }
@@ -63,13 +63,13 @@ fn note_setting(note: u8, velocity: u8) -> Action
 fn controller_action(channel: u8, controller: u8, value: u8) -> Action
     ensures { result ≡ controller_action channel controller value }
 {
-    let division = channel as usize;
+    let division = usize::from(channel);
     if channel == SETTINGS {
         if controller < KNOBS {
-            let knob = controller as usize;
+            let knob = usize::from(controller);
             return Action::Perform(Call::Turn {
                 knob,
-                position: value as usize,
+                position: usize::from(value),
             });
         }
         return Action::Nothing;
@@ -115,7 +115,7 @@ impl Action {
                 channel: SETTINGS,
                 program,
             } => Action::Perform(Call::Recall {
-                piston: program as usize,
+                piston: usize::from(program),
             }),
             Message::Program { .. }
             | Message::KeyPressure { .. }

@@ -4,16 +4,19 @@ ghost use Rattle.board.specs.Board.{Settled};
 ghost use Rattle.board.specs.Layout.{layout};
 ghost use Rattle.board.specs.Wires.{reach_of};
 ghost use Rattle.book.specs.Asking.{keys_in};
-ghost use Rattle.organ.specs.Assembly.{refusal_number, offer_of, is_on, earlier_of, fit_run, hang_all, Hangs, Assembles};
+ghost use Rattle.organ.specs.Assembly.{refusal_number, earlier_of, fit_run, hang_all, Assembles};
 
 use board::board::RelayBoard;
 use board::fault::BoardFault;
-use board::wire::Wire;
 use book::{Board, Book, BookWire};
-use chest::chest::Chest;
+use chest::chest::{Chest, ROWS};
+use std::array;
+
+// Coupler board over stop board over a bottom chest.
+pub type Stack<C> = RelayBoard<RelayBoard<C>>;
 
 // A wire that its board refuses, with the line where the book has it.
-#[derive(Clone, Copy)]
+#[derive(Clone, Copy, Debug, PartialEq)]
 pub struct Refusal {
     pub line: usize,
     pub fault: BoardFault,
@@ -25,32 +28,6 @@ impl Refusal {
         ensures { result ≡ refusal_number self }
     {
         37
-    }
-}
-
-// The wire as it is offered to a board.
-fn offer(wire: book::Wire) -> Wire
-    ensures { result ≡ offer_of wire }
-{
-    Wire {
-        from: wire.from,
-        lowest: wire.lowest,
-        highest: wire.highest,
-        to: wire.to,
-        shift: wire.shift,
-        knob: wire.knob,
-        position: wire.position,
-    }
-}
-
-fn is_on(board: Board, other: Board) -> bool
-    ensures { result ≡ is_on board other }
-{
-    match (board, other) {
-        (Board::Coupler, Board::Coupler) => true,
-        (Board::Coupler, Board::Stop) => false,
-        (Board::Stop, Board::Coupler) => false,
-        (Board::Stop, Board::Stop) => true,
     }
 }
 
@@ -66,27 +43,14 @@ fn fit_all<C: Chest>(
     ensures settled { Settled C.Chest.meaning C.Chest.settled board.old → Settled C.Chest.meaning C.Chest.settled board.new }
 {
     for wire in wires {
-        if is_on(on, wire.wire.board) {
-            if let Err(fault) = board.fit(offer(wire.wire)) {
-                return Err(Refusal {
-                    line: wire.line,
-                    fault,
-                });
-            }
+        if wire.board == on {
+            let line = wire.line;
+            board
+                .fit(wire.wire)
+                .map_err(|fault| Refusal { line, fault })?;
         }
     }
     Ok(())
-}
-
-// The keys of each division.
-fn division_reaches(book: &Book) -> [u8; 16]
-    ensures { reach_of result ≡ keys_in book.now }
-{
-    let mut reaches = [0u8; 16];
-    for division in 0..16 {
-        reaches[division] = book.keys(division);
-    }
-    reaches
 }
 
 // The refusal on the earlier line, if there is one.
@@ -94,38 +58,31 @@ fn earlier(coupler: Result<(), Refusal>, stop: Result<(), Refusal>) -> Result<()
     ensures { result ≡ earlier_of coupler stop }
 {
     match (coupler, stop) {
-        (Ok(()), Ok(())) => Ok(()),
-        (Ok(()), Err(f)) => Err(f),
-        (Err(e), Ok(())) => Err(e),
-        (Err(e), Err(f)) => if e.line < f.line { Err(e) } else { Err(f) },
+        (Err(e), Err(f)) => Err(if e.line < f.line { e } else { f }),
+        (coupler, stop) => coupler.and(stop),
     }
 }
 
-// Coupler board over stop board over a bottom chest, and whether both took their wires.
-fn hang<C: Chest>(
-    reaches: [u8; 16],
+// The stack with these reaches and wires over a bottom chest, or the first wire that its board refuses.
+fn hang<C: Chest + Drop>(
+    reaches: [u8; ROWS],
     wires: &[BookWire],
     bottom: C,
-) -> (RelayBoard<RelayBoard<C>>, Result<(), Refusal>)
-    ensures { C.Chest.settled bottom → Hangs C.Chest.meaning C.Chest.settled (reach_of reaches) (C.Chest.meaning bottom) (hang_all (reach_of reaches) (C.Chest.meaning bottom) wires.now) result.0 result.1 }
+) -> Result<Stack<C>, Refusal>
+    ensures { C.Chest.settled bottom → Assembles C.Chest.meaning C.Chest.settled (reach_of reaches) (C.Chest.meaning bottom) (hang_all (reach_of reaches) (C.Chest.meaning bottom) wires.now) result }
 {
     let mut stops = RelayBoard::new(bottom, reaches);
     let stop = fit_all(&mut stops, wires, Board::Stop);
     let mut couplers = RelayBoard::new(stops, reaches);
     let coupler = fit_all(&mut couplers, wires, Board::Coupler);
-    (couplers, earlier(coupler, stop))
+    earlier(coupler, stop)?;
+    Ok(couplers)
 }
 
 // The stack of a book over a bottom chest, or the first wire that its board refuses.
-pub fn assemble<C: Chest + Drop>(
-    book: &Book,
-    bottom: C,
-) -> Result<RelayBoard<RelayBoard<C>>, Refusal>
+pub fn assemble<C: Chest + Drop>(book: &Book, bottom: C) -> Result<Stack<C>, Refusal>
     ensures { C.Chest.settled bottom → Assembles C.Chest.meaning C.Chest.settled (keys_in book.now) (C.Chest.meaning bottom) (hang_all (keys_in book.now) (C.Chest.meaning bottom) book.now.wires.items) result }
 {
-    let (stack, verdict) = hang(division_reaches(book), book.wires(), bottom);
-    match verdict {
-        Ok(()) => Ok(stack),
-        Err(refusal) => Err(refusal),
-    }
+    let reaches = array::from_fn(|division| book.keys(division));
+    hang(reaches, book.wires(), bottom)
 }

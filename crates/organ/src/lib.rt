@@ -6,5 +6,6 @@ pub mod action;
 pub mod assembly;
 pub mod listing;
 pub mod opening;
+mod refused;
 pub mod response;
 mod tables;

@@ -2,12 +2,13 @@
 ghost use Rattle.std.specs.Prelude.{◌≡◌, ◌+◌, ◌≤◌, true, ◌++◌, length, is_ok, if◌then◌else◌, vec_len, vec_capacity, decimal};
 ghost use Rattle.organ.specs.Listing.{line_bytes};
 
+use itoa::Buffer;
 use std::alloc::AllocError;
 
 // The most bytes that a line can have: a word, two numbers of 20 digits, brackets, spaces and its end.
 pub(crate) const LONGEST_LINE: usize = 64;
 
-#[derive(Clone, Copy)]
+#[derive(Clone, Copy, Debug, PartialEq)]
 pub enum Line {
     // A call was done, and this many pipes changed.
     Done { count: u32 },
@@ -21,23 +22,9 @@ fn push_text(listing: &mut Vec<u8>, text: &[u8])
     requires { vec_len listing.old + length text.now ≤ vec_capacity listing.old }
     ensures items { listing.new.items ≡ listing.old.items ++ text.now }
     ensures len { vec_len listing.new ≡ vec_len listing.old + length text.now }
-    ensures capacity { vec_capacity listing.new ≡ vec_capacity listing.old }
+    ensures capacity { vec_capacity listing.old ≤ vec_capacity listing.new }
 {
-    for byte in text {
-        listing.push_reserved(*byte);
-    }
-}
-
-fn push_number(listing: &mut Vec<u8>, n: usize)
-    requires { vec_len listing.old + length (decimal n) ≤ vec_capacity listing.old }
-    ensures items { listing.new.items ≡ listing.old.items ++ decimal n }
-    ensures len { vec_len listing.new ≡ vec_len listing.old + length (decimal n) }
-    ensures capacity { vec_capacity listing.new ≡ vec_capacity listing.old }
-{
-    if n >= 10 {
-        push_number(listing, n / 10);
-    }
-    listing.push_reserved(b'0' + (n % 10) as u8);
+    listing.extend_from_slice(text).unwrap();
 }
 
 // A text and a number after it.
@@ -45,10 +32,10 @@ fn push_field(listing: &mut Vec<u8>, lead: &[u8], n: usize)
     requires { vec_len listing.old + (length lead.now + 20) ≤ vec_capacity listing.old }
     ensures items { listing.new.items ≡ listing.old.items ++ (lead.now ++ decimal n) }
     ensures bound { vec_len listing.new ≤ vec_len listing.old + (length lead.now + 20) }
-    ensures capacity { vec_capacity listing.new ≡ vec_capacity listing.old }
+    ensures capacity { vec_capacity listing.old ≤ vec_capacity listing.new }
 {
     push_text(listing, lead);
-    push_number(listing, n);
+    push_text(listing, Buffer::new().format(n).as_bytes());
 }
 
 impl Line {
@@ -61,9 +48,9 @@ impl Line {
         listing.reserve(LONGEST_LINE)?;
         match self {
             Line::Done { count } => push_field(listing, b"(done ", count as usize),
-            Line::Fault { number } => push_field(listing, b"(fault ", number as usize),
+            Line::Fault { number } => push_field(listing, b"(fault ", usize::from(number)),
             Line::BookFault { number, line } => {
-                push_field(listing, b"(fault ", number as usize);
+                push_field(listing, b"(fault ", usize::from(number));
                 push_field(listing, b" ", line);
             }
         }

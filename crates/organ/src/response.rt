@@ -14,11 +14,11 @@ use console::fault::PlayFault;
 use midi::Message;
 use std::alloc::AllocError;
 
-impl Line {
-    // The line of a call's answer.
-    pub fn of(answer: Result<u32, PlayFault>) -> Line
-        ensures { result ≡ line_of answer }
-    {
+// The line of a call's answer.
+impl From<Result<u32, PlayFault>> for Line {
+    ghost from_gives = { λ answer line. line ≡ line_of answer };
+
+    fn from(answer: Result<u32, PlayFault>) -> Line {
         match answer {
             Ok(count) => Line::Done { count },
             Err(fault) => Line::Fault {
@@ -26,6 +26,12 @@ impl Line {
             },
         }
     }
+}
+
+// There is no memory for the line of a message; those before it were answered.
+#[derive(Clone, Copy, Debug, PartialEq)]
+pub struct OutOfMemory {
+    pub answered: usize,
 }
 
 // Does what the message asks for. Room for the line is made first: where there is none, nothing is done.
@@ -42,13 +48,13 @@ pub fn respond<C: Chest>(
     listing.reserve(LONGEST_LINE)?;
     match Action::of(message) {
         Action::Nothing => Ok(()),
-        Action::Perform(call) => Line::of(console.perform(call)).add_to(listing),
+        Action::Perform(call) => Line::from(console.perform(call)).add_to(listing),
         Action::LowNote { division, note } => {
             let fault = PlayFault::Key {
                 division,
                 key: note,
             };
-            Line::of(Err(fault)).add_to(listing)
+            Line::from(Err(fault)).add_to(listing)
         }
     }
 }
@@ -58,13 +64,13 @@ pub fn respond_all<C: Chest>(
     console: &mut Console<C>,
     messages: &[Message],
     listing: &mut Vec<u8>,
-) -> Result<(), usize>
+) -> Result<(), OutOfMemory>
     ensures answers { (s : Setup) (p : Model) → Tracks C.Chest.meaning C.Chest.settled console.old s p → Answered C.Chest.meaning C.Chest.settled console.old console.new s p (take (until result (length messages.now)) messages.now) listing.old.items listing.new.items }
     ensures succeeds { vec_len listing.old + 64 * length messages.now ≤ vec_capacity listing.old → is_ok result ≡ true }
 {
     for (i, message) in messages.iter().enumerate() {
         if respond(console, *message, listing).is_err() {
-            return Err(i);
+            return Err(OutOfMemory { answered: i });
         }
     }
     Ok(())

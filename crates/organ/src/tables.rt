@@ -1,21 +1,20 @@
 // The knobs and pistons of a book, as a console takes them.
 ghost use Rattle.std.specs.Prelude.{◌≡◌, ℕ};
-ghost use Rattle.console.specs.Knobs.{steps_of, home_of};
+ghost use Rattle.console.specs.KnobTable.{steps_of, home_of};
 ghost use Rattle.console.specs.Pistons.{scope_of};
-ghost use Rattle.book.specs.Asking.{knob_in, scope_in};
 ghost use Rattle.organ.specs.Tables.{book_steps, book_home, book_scope};
 
-use book::Book;
+use book::{Book, KNOBS, PISTONS};
 use console::knobs::KnobTable;
 use console::pistons::PistonTable;
 
 // The knobs that the book defines.
 pub(crate) fn knob_table(book: &Book) -> KnobTable
-    ensures steps { (k : ℕ) → steps_of result.steps k ≡ book_steps book.now k }
-    ensures homes { (k : ℕ) → home_of result.homes k ≡ book_home book.now k }
+    ensures steps { (k : ℕ) → steps_of result k ≡ book_steps book.now k }
+    ensures homes { (k : ℕ) → home_of result k ≡ book_home book.now k }
 {
     let mut table = KnobTable::new();
-    for k in 0..64 {
+    for k in 0..KNOBS {
         if let Some(knob) = book.knob(k) {
             table = table.with_knob(k, knob.steps, knob.home).unwrap_or(table);
         }
@@ -25,10 +24,10 @@ pub(crate) fn knob_table(book: &Book) -> KnobTable
 
 // The pistons that the book defines.
 pub(crate) fn piston_table(book: &Book) -> PistonTable
-    ensures { (q : ℕ) → scope_of result.pistons q ≡ book_scope book.now q }
+    ensures { (q : ℕ) → scope_of result q ≡ book_scope book.now q }
 {
     let mut table = PistonTable::new();
-    for q in 0..40 {
+    for q in 0..PISTONS {
         if let Some(scope) = book.scope(q) {
             table = table
                 .with_piston(q, scope.lowest, scope.highest)

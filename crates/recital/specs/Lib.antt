@@ -1,4 +1,3 @@
-pub mod Faults
 pub mod Described
 pub mod Listings
 pub mod Playing

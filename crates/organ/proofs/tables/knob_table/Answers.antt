@@ -1,42 +1,47 @@
--- The answers for `knob_table`: no knob yet, one more, and all.
-use Rattle.std.proofs.Common.{◌≡◌, ◌+◌, true, ◌&&◌, ltb, set, sym, ◌∙◌, subst, arith}
+-- No knob yet, one more, and all.
+use Rattle.std.proofs.Common.{◌≡◌, ℕ, ◌≤◌, true, ◌&&◌, ltb, None, unwrap_or, ap, ◌∙◌, subst, arith}
+use Rattle.std.specs.Option.{option_map}
 use Rattle.std.proofs.lemmas.Bool.Decides.{nat_tests}
+use Rattle.book.specs.Asking.{knob_in}
 use Rattle.console.specs.Knobs.{sound}
-use Rattle.organ.proofs.Filling.{Filled, fill_none, fill_some, filled_all, defined}
+use Rattle.console.specs.KnobTable.{steps_of, home_of}
+use Rattle.organ.specs.Tables.{book_steps, book_home}
+use Rattle.organ.proofs.Filling.{Filled, one_more, none_more, filled_all, defined}
 use Rattle.organ.proofs.tables.knob_table.Goals as goal
 use Rattle.organ.proofs.tables.knob_table.Goals.{in-Some, in_default}
 
 pub loop-k-init : goal.loop-k-init
 loop-k-init c =
-    record {
-      long_steps = omega arith;
-      long_homes = omega arith;
-      before = λ k h. absurd (omega arith);
-      no_steps = λ k h. c.new-table.ensures.steps k;
-      no_homes = λ k h. c.new-table.ensures.homes k;
-    }
+    (((λ k h. absurd (omega arith)), λ k h. c.new-table.ensures.steps k), ((λ k h. absurd (omega arith)), λ k h. c.new-table.ensures.homes k))
 
 pub loop-k-preserved : goal.loop-k-preserved
 loop-k-preserved c =
     let b = c.args.book.now in
     let k = c.loop-k.k in
     let t = c.loop-k.table in
+    let next = c.match-knob.table in
     elim c.match-knob.branch [
       | in-Some w ↦
           let knob = w.in-Some.knob in
           let given = w.in-Some.ensures in
           let ok : (ltb k 64 && sound knob.steps knob.home) ≡ true = grind (arith, nat_tests, c.loop-k-test.true, given.bound.0, given.bound.1, given.bound.2) in
-          let put = defined w.with_knob.result t c.match-knob.table k knob.steps knob.home ok w.with_knob.ensures (w.table-is ∙ w.unwrap_or-table.ensures) in
-          let next = fill_some t.steps t.homes b k c.loop-k-test.true c.loop-k.invariant knob (sym given.value) given.bound.0 in
-          subst (λ x. Filled c.match-knob.table.steps x b (k + 1)) (sym put.1) (subst (λ x. Filled x (set t.homes k knob.home) b (k + 1)) (sym put.0) next)
-      | in_default w ↦
-          let next = fill_none t.steps t.homes b k c.loop-k-test.true c.loop-k.invariant (sym w.in_default.ensures.value) in
-          subst (λ x. Filled x.steps x.homes b (k + 1)) (sym w.table-is) next
+          let put = defined w.with_knob.result t next k knob.steps knob.home ok w.with_knob.ensures (w.table-is ∙ w.unwrap_or-table.ensures) in (
+            one_more (book_steps b) None (steps_of t) (steps_of next) k c.loop-k.invariant.0 (put.0 ∙ ap (option_map (λ q. q.steps)) given.value) (λ j ne. (put.2 j ne).0),
+            one_more (book_home b) 0 (home_of t) (home_of next) k c.loop-k.invariant.1 (put.1 ∙ ap (λ o. unwrap_or (option_map (λ q. q.home) o) 0) given.value) (λ j ne. (put.2 j ne).1),
+          )
+      | in_default w ↦ (
+        none_more (book_steps b) None (steps_of t) (steps_of next) k c.loop-k.invariant.0 (ap steps_of w.table-is) (ap (option_map (λ q. q.steps)) w.in_default.ensures.value),
+        none_more (book_home b) 0 (home_of t) (home_of next) k c.loop-k.invariant.1 (ap home_of w.table-is) (ap (λ o. unwrap_or (option_map (λ q. q.home) o) 0) w.in_default.ensures.value),
+      )
     ]
 
 pub returns : goal.returns
 returns c =
+    let b = c.args.book.now in
     let t = c.loop-k.table in
     let all : c.loop-k.k ≡ 64 = omega arith in
-    let full = filled_all t.steps t.homes c.args.book.now (subst (Filled t.steps t.homes c.args.book.now) all c.loop-k.invariant) in
-    record { steps = λ k. (full k).steps_are; homes = λ k. (full k).home_is }
+    let past : (k : ℕ) → 64 ≤ k → knob_in b k ≡ None = λ k h. grind (arith, nat_tests) in
+    record {
+      steps = filled_all (book_steps b) None (steps_of t) 64 (subst (Filled (book_steps b) None (steps_of t)) all c.loop-k.invariant.0) (λ k h. ap (option_map (λ q. q.steps)) (past k h));
+      homes = filled_all (book_home b) 0 (home_of t) 64 (subst (Filled (book_home b) 0 (home_of t)) all c.loop-k.invariant.1) (λ k h. ap (λ o. unwrap_or (option_map (λ q. q.home) o) 0) (past k h));
+    }

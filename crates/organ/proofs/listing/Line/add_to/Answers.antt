@@ -18,10 +18,10 @@ returns c =
                 one_field old held now (codes "(done ") line_end w.in-Done.count (ap vec_items w.listing-is ∙ w.push_field.ensures.items ∙ ap (λ (xs : List ℕ). xs ++ (codes "(done " ++ decimal w.in-Done.count)) kept) end
                 ∙ ap (λ x. old ++ line_bytes x) (sym w.in-Done.is)
             | in-Fault w ↦
-                one_field old held now (codes "(fault ") line_end w.in-Fault.number (ap vec_items w.listing-is ∙ w.push_field-in-Fault.ensures.items ∙ ap (λ (xs : List ℕ). xs ++ (codes "(fault " ++ decimal w.in-Fault.number)) kept) end
+                one_field old held now (codes "(fault ") line_end w.in-Fault.number (ap vec_items w.listing-is ∙ w.push_field-in-Fault.ensures.items ∙ (λ i. kept i ++ (codes "(fault " ++ decimal (w.from.ensures i)))) end
                 ∙ ap (λ x. old ++ line_bytes x) (sym w.in-Fault.is)
             | in-BookFault w ↦
-                two_fields old (vec_items w.push_field-in-BookFault.new.listing) held now (codes "(fault ") (codes " ") line_end w.in-BookFault.number w.in-BookFault.line (w.push_field-in-BookFault.ensures.items ∙ ap (λ (xs : List ℕ). xs ++ (codes "(fault " ++ decimal w.in-BookFault.number)) kept) (ap vec_items w.listing-is ∙ w.push_field-in-BookFault-2.ensures.items) end
+                two_fields old (vec_items w.push_field-in-BookFault.new.listing) held now (codes "(fault ") (codes " ") line_end w.in-BookFault.number w.in-BookFault.line (w.push_field-in-BookFault.ensures.items ∙ (λ i. kept i ++ (codes "(fault " ++ decimal (w.from-in-BookFault.ensures i)))) (ap vec_items w.listing-is ∙ w.push_field-in-BookFault-2.ensures.items) end
                 ∙ ap (λ x. old ++ line_bytes x) (sym w.in-BookFault.is)
           ];
       succeeds = λ h. refl;
