@@ -1,8 +1,7 @@
 -- A line's numbers, read one after another. Assumes nothing.
-use Rattle.std.proofs.Common.{◌≡◌, ℕ, ◌<◌, false, eqb, List, [], ◌∷◌, ◌++◌, length, ℤ, Some, None, Ok, Err, Option, Result, sym, refl, ap, ◌∙◌, subst, ⊎_elim, arith}
+use Rattle.std.proofs.Common.{◌≡◌, ℕ, ◌<◌, List, [], ◌∷◌, ◌++◌, length, ℤ, Some, None, Ok, Err, Option, Result, sym, refl, ap, ◌∙◌, subst, ⊎_elim, arith}
 use Rattle.std.proofs.lemmas.List.{append-nil, append_assoc, length_push, take_all, take-append-le, length-take-le}
-use Rattle.std.proofs.lemmas.Bool.{cond-false, cases_lt}
-use Rattle.std.proofs.lemmas.Bool.Decides.{nat_tests}
+use Rattle.std.proofs.lemmas.Bool.{cases_lt}
 use Rattle.std.specs.Option.{option_map}
 use Rattle.std.specs.Result.{IsOk, OnOk, OnErr}
 use Rattle.arrayvec.specs.ArrayVec.{ArrayVec}
@@ -13,7 +12,6 @@ use Rattle.book.specs.Numerals.{numeral}
 use Rattle.book.specs.Pieces.{letters, figures, Piece, run, mark, pieces, numbers_of, with_number, before, with_head, shape_from, shape_of}
 use Rattle.book.specs.Shapes.{Kept, Keeps, Shapes}
 use Rattle.book.specs.Limits.{most_kept}
-use Rattle.book.specs.Tokens.{token_first}
 
 -- the numbers so far, before those that the rest has
 pub record Sofar (n : ArrayVec ℤ) (bs rest : List ℕ) : Type 0 where
@@ -49,21 +47,6 @@ go_on n m bs rest after d z s cut is k =
           s.left ∙ ap (λ ps. option_map (λ ys. s.zs ++ ys) (numbers_of ps)) cut ∙
           ap (λ o. option_map (λ ys. s.zs ++ ys) (with_number o (numbers_of (pieces after)))) (sym is) ∙ one_number s.zs z _;
     }
-
--- no numbers follow where no token stands, nor after a bracket or a word in the wrong place
-pub none-without : (ps : List Piece) → token_first ps ≡ false → numbers_of ps ≡ None
-none-without [] h = refl
-none-without (run k w ∷ ps) h = refl
-none-without (mark m ∷ []) h = cond-false (eqb m closing) _ _ (grind (arith, nat_tests))
-none-without (mark m ∷ (run letters w ∷ ps)) h = refl
-none-without (mark m ∷ (run figures w ∷ ps)) h = cond-false (eqb m space) _ _ (grind (arith, nat_tests))
-none-without (mark m ∷ (mark k ∷ ps)) h = refl
-
-pub none-at_open : (ps : List Piece) → numbers_of (mark opening ∷ ps) ≡ None
-none-at_open [] = refl
-none-at_open (run letters w ∷ ps) = refl
-none-at_open (run figures w ∷ ps) = refl
-none-at_open (mark m ∷ ps) = refl
 
 -- the closing bracket is the end of the numbers just where it is the end of the line
 pub end_at_close : (bs : List ℕ) → length bs ≡ 0 → numbers_of (mark closing ∷ pieces bs) ≡ Some []
