@@ -1,5 +1,5 @@
 -- What the digits of a number are worth. Assumes nothing.
-use Rattle.std.proofs.Common.{◌≡◌, ℕ, ◌+◌, ◌-◌, ◌*◌, ◌<◌, ◌≤◌, true, false, List, [], ◌∷◌, length, get_or, take, drop, ℤ, pos, ◌-ℤ◌, neg_ℤ, Some, None, Option, sym, refl, ap, ◌∙◌, subst, arith, w16, to_z, of_z}
+use Rattle.std.proofs.Common.{◌≡◌, ℕ, ◌+◌, ◌-◌, ◌*◌, ◌<◌, ◌≤◌, true, false, List, length, get_or, take, drop, ℤ, pos, ◌-ℤ◌, neg_ℤ, Some, None, Option, sym, refl, ap, ◌∙◌, subst, arith, w16, to_z, of_z}
 use Rattle.std.specs.Str.Parse.{AllDigits, digits_value}
 use Rattle.std.specs.Char.{digit_value, is_ascii_digit}
 use Rattle.std.specs.Str.{all_ascii_digits}
@@ -51,12 +51,6 @@ size-done ds i n end some few lead digits is =
     let all = subst (AllDigits 10) whole digits in
     let worth = is ∙ ap (digits_value 10) whole in
     (ap Some worth ∙ size-good ds some few lead all, omega (arith, size_room ds few all))
-
--- 0 stands alone
-pub size-zero : (ds : List ℕ) → length ds ≡ 1 → get_or ds 0 0 ≡ 48 → Some 0 ≡ size_of ds
-size-zero [] one zero = absurd (omega arith)
-size-zero (d ∷ []) one zero = sym (ap (λ n. size_of (n ∷ [])) zero)
-size-zero (d ∷ e ∷ ds) one zero = absurd (omega arith)
 
 -- o is what the bytes after the minus are worth
 pub numeral-minus : (bs : List ℕ) (o : Option ℕ) → get_or bs 0 0 ≡ 45 → o ≡ size_of (take (length bs - 1) (drop 1 bs)) → below_zero o ≡ numeral bs
