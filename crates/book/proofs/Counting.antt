@@ -1,8 +1,7 @@
 -- A line's numbers, read one after another. Assumes nothing.
-use Rattle.std.proofs.Common.{◌≡◌, ℕ, ◌<◌, false, eqb, List, [], ◌∷◌, ◌++◌, length, ℤ, Some, None, Ok, Err, Option, Result, sym, refl, ap, ◌∙◌, subst, ⊎_elim, arith}
-use Rattle.std.proofs.lemmas.List.{append-nil, append_assoc, length_push, take_all, take-append-le, length-take-le}
-use Rattle.std.proofs.lemmas.Bool.{cond-false, cases_lt}
-use Rattle.std.proofs.lemmas.Bool.Decides.{nat_tests}
+use Rattle.std.proofs.Common.{◌≡◌, ℕ, ◌<◌, List, [], ◌∷◌, ◌++◌, length, ℤ, Some, None, Ok, Err, Option, Result, sym, refl, ap, ◌∙◌, subst, ⊎_elim, arith}
+use Rattle.std.proofs.lemmas.List.{append_assoc, length_push, take_all, take-append-le, length-take-le}
+use Rattle.std.proofs.lemmas.Bool.{cases_lt}
 use Rattle.std.specs.Option.{option_map}
 use Rattle.std.specs.Result.{IsOk, OnOk, OnErr}
 use Rattle.arrayvec.specs.ArrayVec.{ArrayVec}
@@ -13,7 +12,6 @@ use Rattle.book.specs.Numerals.{numeral}
 use Rattle.book.specs.Pieces.{letters, figures, Piece, run, mark, pieces, numbers_of, with_number, before, with_head, shape_from, shape_of}
 use Rattle.book.specs.Shapes.{Kept, Keeps, Shapes}
 use Rattle.book.specs.Limits.{most_kept}
-use Rattle.book.specs.Tokens.{token_first}
 
 -- the numbers so far, before those that the rest has
 pub record Sofar (n : ArrayVec ℤ) (bs rest : List ℕ) : Type 0 where
@@ -21,20 +19,8 @@ pub record Sofar (n : ArrayVec ℤ) (bs rest : List ℕ) : Type 0 where
   pub kept : Kept n zs
   pub left : numbers_of (pieces bs) ≡ option_map (λ ys. zs ++ ys) (numbers_of (pieces rest))
 
-pub start : (n : ArrayVec ℤ) (bs : List ℕ) → Kept n [] → Sofar n bs bs
-start n bs k =
-    record {
-      zs = [];
-      kept = k;
-      left = elim (numbers_of (pieces bs)) as (λ o. o ≡ option_map (λ ys. ys) o) [ None ↦ refl | Some ys ↦ refl ];
-    }
-
 pub stop : (n : ArrayVec ℤ) (bs rest : List ℕ) → Sofar n bs rest → numbers_of (pieces rest) ≡ None → Keeps None (numbers_of (pieces bs))
 stop n bs rest s none = subst (Keeps None) (sym (s.left ∙ ap (option_map (λ ys. s.zs ++ ys)) none)) tt
-
-pub finish : (n : ArrayVec ℤ) (bs rest : List ℕ) → Sofar n bs rest → numbers_of (pieces rest) ≡ Some [] → Keeps (Some n) (numbers_of (pieces bs))
-finish n bs rest s end =
-    subst (Keeps (Some n)) (sym (s.left ∙ ap (option_map (λ ys. s.zs ++ ys)) end ∙ ap Some (append-nil s.zs))) s.kept
 
 one_number : (zs : List ℤ) (z : ℤ) (o : Option (List ℤ)) → option_map (λ ys. zs ++ ys) (with_number (Some z) o) ≡ option_map (λ ys. zs ++ z ∷ [] ++ ys) o
 one_number zs z None = refl
@@ -49,26 +35,6 @@ go_on n m bs rest after d z s cut is k =
           s.left ∙ ap (λ ps. option_map (λ ys. s.zs ++ ys) (numbers_of ps)) cut ∙
           ap (λ o. option_map (λ ys. s.zs ++ ys) (with_number o (numbers_of (pieces after)))) (sym is) ∙ one_number s.zs z _;
     }
-
--- no numbers follow where no token stands, nor after a bracket or a word in the wrong place
-pub none-without : (ps : List Piece) → token_first ps ≡ false → numbers_of ps ≡ None
-none-without [] h = refl
-none-without (run k w ∷ ps) h = refl
-none-without (mark m ∷ []) h = cond-false (eqb m closing) _ _ (grind (arith, nat_tests))
-none-without (mark m ∷ (run letters w ∷ ps)) h = refl
-none-without (mark m ∷ (run figures w ∷ ps)) h = cond-false (eqb m space) _ _ (grind (arith, nat_tests))
-none-without (mark m ∷ (mark k ∷ ps)) h = refl
-
-pub none-at_open : (ps : List Piece) → numbers_of (mark opening ∷ ps) ≡ None
-none-at_open [] = refl
-none-at_open (run letters w ∷ ps) = refl
-none-at_open (run figures w ∷ ps) = refl
-none-at_open (mark m ∷ ps) = refl
-
--- the closing bracket is the end of the numbers just where it is the end of the line
-pub end_at_close : (bs : List ℕ) → length bs ≡ 0 → numbers_of (mark closing ∷ pieces bs) ≡ Some []
-end_at_close [] none = refl
-end_at_close (b ∷ bs) none = absurd (omega arith)
 
 none-past_close : (ps : List Piece) → (ps ≡ [] → ⊥) → numbers_of (mark closing ∷ ps) ≡ None
 none-past_close [] some = absurd (some refl)

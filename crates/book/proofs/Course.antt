@@ -71,9 +71,6 @@ pub record Reading (b : Book) (text rest : List ℕ) (n : ℕ) : Type 0 where
   pub left : lines_from [] 1 (cut text) ≡ lines_from es n (cut rest)
   pub room : n + length rest ≤ length text + 1
 
-pub start : (b : Book) (text : List ℕ) → Holds b [] → Reading b text text 1
-start b text h = record { es = []; holds = h; left = refl; room = omega arith }
-
 pub more_lines : (es : List Entry) (n : ℕ) (l : List ℕ) (ls : List (List ℕ)) → (ls ≡ [] → ⊥) → lines_from es n (l ∷ ls) ≡ and_then (with_line es n l) (λ fs. lines_from fs (n + 1) ls)
 more_lines es n l [] some = absurd (some refl)
 more_lines es n l (m ∷ ls) some = refl

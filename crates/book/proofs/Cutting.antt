@@ -1,12 +1,12 @@
 -- How the pieces of a text come off its front. Assumes nothing.
-use Rattle.std.proofs.Common.{◌≡◌, ℕ, suc, ◌+◌, Bool, true, false, ◌&&◌, ◌||◌, eqb, List, [], ◌∷◌, ◌++◌, length, get_or, take, drop, sym, refl, ap, ◌∙◌, ⊎_elim, one-add, arith}
+use Rattle.std.proofs.Common.{◌≡◌, ℕ, suc, true, false, List, [], ◌∷◌, ◌++◌, length, get_or, take, drop, sym, refl, ap, ◌∙◌, ⊎_elim, one-add, arith}
 use Rattle.std.specs.List.{prefix_len}
-use Rattle.std.proofs.lemmas.List.{take-append-drop, nil_from_length}
+use Rattle.std.proofs.lemmas.List.{take-append-drop}
 use Rattle.std.proofs.lemmas.Bool.{cond-true, cond-false, cases_Bool, true≢false}
 use Rattle.std.proofs.lemmas.Bool.Decides.{nat_tests}
-use Rattle.book.specs.Bytes.{letter, numeric, space, opening, closing}
+use Rattle.book.specs.Bytes.{letter, numeric, space}
 use Rattle.book.specs.Pieces.{Kind, letters, figures, Piece, run, mark, of_kind, run_before, before, pieces}
-use Rattle.book.specs.Tokens.{begins, token_first}
+use Rattle.book.specs.Tokens.{begins}
 
 numeric-no_letter : (b : ℕ) → numeric b ≡ true → letter b ≡ false
 numeric-no_letter b h = grind (arith, nat_tests)
@@ -85,43 +85,10 @@ run_first k (b ∷ bs) n is some =
     (λ d. absurd (some (is ∙ cond-false _ _ _ d)))
     (cases_Bool (of_kind k b))
 
-leading_none : (p : ℕ → Bool) (b : ℕ) (bs : List ℕ) → prefix_len p (b ∷ bs) ≡ 0 → p b ≡ false
-leading_none p b bs none =
-    ⊎_elim (λ d. let e : 1 + prefix_len p bs ≡ 0 = sym (cond-true _ _ _ d) ∙ none in absurd (omega arith)) (λ d. d) (cases_Bool (p b))
-
-no_run : (k : Kind) (bs : List ℕ) → prefix_len (of_kind k) bs ≡ 0 → begins k (pieces bs) ≡ false
-no_run k [] none = refl
-no_run k (b ∷ bs) none = before-out k b (pieces bs) (leading_none (of_kind k) b bs none)
-
-figures_no_token : (b : ℕ) (ps : List Piece) → token_first (run_before figures b ps) ≡ false
-figures_no_token b [] = refl
-figures_no_token b (run letters w ∷ ps) = refl
-figures_no_token b (run figures w ∷ ps) = refl
-figures_no_token b (mark m ∷ ps) = refl
-
-mark_no_token : (b : ℕ) (t : Bool) → (b ≡ opening → ⊥) → (b ≡ closing → ⊥) → (b ≡ space → ⊥) → (eqb b opening || (eqb b closing || (eqb b space && t))) ≡ false
-mark_no_token b t p q r = grind (arith, nat_tests)
-
 -- a text by its first byte
 pub split_first : (bs : List ℕ) (b : ℕ) (rest : List ℕ) → (length bs ≡ 0 → ⊥) → get_or bs 0 0 ≡ b → rest ≡ drop 1 bs → bs ≡ b ∷ rest
 split_first [] b rest some is back = absurd (some refl)
 split_first (c ∷ bs) b rest some is back = λ i. is i ∷ sym back i
-
--- where no token stands: at the end, at a space without a number, at a byte that begins none
-pub no_token_end : (bs : List ℕ) → length bs ≡ 0 → token_first (pieces bs) ≡ false
-no_token_end bs none = ap (λ l. token_first (pieces l)) (nil_from_length bs none)
-
-pub no_token_space : (bs after : List ℕ) → bs ≡ space ∷ after → prefix_len numeric after ≡ 0 → token_first (pieces bs) ≡ false
-no_token_space bs after is none = ap (λ l. token_first (pieces l)) is ∙ no_run figures after none
-
-pub no_token_other : (bs : List ℕ) (b : ℕ) (after : List ℕ) → bs ≡ b ∷ after → prefix_len letter bs ≡ 0 → (b ≡ opening → ⊥) → (b ≡ closing → ⊥) → (b ≡ space → ⊥) → token_first (pieces bs) ≡ false
-no_token_other bs b after is none p q r =
-    let other = leading_none letter b after (ap (prefix_len letter) (sym is) ∙ none) in
-    ap (λ l. token_first (pieces l)) is ∙
-    ⊎_elim
-    (λ d. ap token_first (before-in figures b (pieces after) d) ∙ figures_no_token b (pieces after))
-    (λ d. ap token_first (before-mark b (pieces after) other d) ∙ mark_no_token b _ p q r)
-    (cases_Bool (numeric b))
 
 -- a run comes off the front whole
 pub lex_run : (k : Kind) (bs front back : List ℕ) (n : ℕ) → n ≡ prefix_len (of_kind k) bs → (n ≡ 0 → ⊥) → front ≡ take n bs → back ≡ drop n bs → (bs ≡ front ++ back) × (pieces bs ≡ run k front ∷ pieces back)

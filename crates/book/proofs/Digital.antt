@@ -1,5 +1,5 @@
 -- What the digits of a number are worth. Assumes nothing.
-use Rattle.std.proofs.Common.{◌≡◌, ℕ, ◌+◌, ◌-◌, ◌*◌, ◌<◌, ◌≤◌, true, false, List, [], ◌∷◌, length, get_or, take, drop, pos, ◌-ℤ◌, neg_ℤ, Some, None, Option, sym, refl, ap, ◌∙◌, subst, arith, w16, to_z, of_z}
+use Rattle.std.proofs.Common.{◌≡◌, ℕ, ◌+◌, ◌-◌, ◌*◌, ◌<◌, ◌≤◌, true, false, List, length, get_or, take, drop, ℤ, pos, ◌-ℤ◌, neg_ℤ, Some, None, Option, sym, refl, ap, ◌∙◌, subst, arith, w16, to_z, of_z}
 use Rattle.std.specs.Str.Parse.{AllDigits, digits_value}
 use Rattle.std.specs.Char.{digit_value, is_ascii_digit}
 use Rattle.std.specs.Str.{all_ascii_digits}
@@ -52,21 +52,12 @@ size-done ds i n end some few lead digits is =
     let worth = is ∙ ap (digits_value 10) whole in
     (ap Some worth ∙ size-good ds some few lead all, omega (arith, size_room ds few all))
 
--- 0 stands alone
-pub size-zero : (ds : List ℕ) → length ds ≡ 1 → get_or ds 0 0 ≡ 48 → Some 0 ≡ size_of ds
-size-zero [] one zero = absurd (omega arith)
-size-zero (d ∷ []) one zero = sym (ap (λ n. size_of (n ∷ [])) zero)
-size-zero (d ∷ e ∷ ds) one zero = absurd (omega arith)
-
 -- o is what the bytes after the minus are worth
 pub numeral-minus : (bs : List ℕ) (o : Option ℕ) → get_or bs 0 0 ≡ 45 → o ≡ size_of (take (length bs - 1) (drop 1 bs)) → below_zero o ≡ numeral bs
 numeral-minus bs o first is =
     ap below_zero (is ∙ ap size_of (take_rest bs 1)) ∙ sym (cond-true _ _ _ (eq-eqb _ 45 first))
 
-pub minus-zero : (bs : List ℕ) (n : ℕ) → get_or bs 0 0 ≡ 45 → Some n ≡ size_of (take (length bs - 1) (drop 1 bs)) → n ≡ 0 → None ≡ numeral bs
-minus-zero bs n first is zero = sym (cond-true _ _ _ (eq-eqb n 0 zero)) ∙ numeral-minus bs (Some n) first is
-
-pub minus-some : (bs : List ℕ) (n : ℕ) → get_or bs 0 0 ≡ 45 → Some n ≡ size_of (take (length bs - 1) (drop 1 bs)) → (n ≡ 0 → ⊥) → n ≤ 9999 → Some (to_z w16 (of_z w16 (pos 0 -ℤ to_z w16 n))) ≡ numeral bs
-minus-some bs n first is some few =
-    let sign : to_z w16 (of_z w16 (pos 0 -ℤ to_z w16 n)) ≡ neg_ℤ (pos n) = omega (arith, ints) in
-    ap Some sign ∙ sym (cond-false _ _ _ (ne_eqb n 0 some)) ∙ numeral-minus bs (Some n) first is
+pub minus-some : (bs : List ℕ) (n : ℕ) (z : ℤ) → get_or bs 0 0 ≡ 45 → Some n ≡ size_of (take (length bs - 1) (drop 1 bs)) → z ≡ pos n → (n ≡ 0 → ⊥) → n ≤ 9999 → Some (to_z w16 (of_z w16 (pos 0 -ℤ to_z w16 (of_z w16 z)))) ≡ numeral bs
+minus-some bs n z first is same some few =
+    let sign : to_z w16 (of_z w16 (pos 0 -ℤ to_z w16 (of_z w16 (pos n)))) ≡ neg_ℤ (pos n) = omega (arith, ints) in
+    ap (λ y. Some (to_z w16 (of_z w16 (pos 0 -ℤ to_z w16 (of_z w16 y))))) same ∙ ap Some sign ∙ sym (cond-false _ _ _ (ne_eqb n 0 some)) ∙ numeral-minus bs (Some n) first is

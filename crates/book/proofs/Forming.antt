@@ -44,9 +44,6 @@ pub record Read (h : Head) (zs : List ℤ) (f : Form) : Type 0 where
   pub numbers : numbers_in f ≡ zs
   pub ranges : InRange f
 
-within_in : (n low high : ℕ) → low ≤ n → n ≤ high → within (pos n) low high ≡ Some n
-within_in n low high p q = grind (arith, nat_tests)
-
 wire_complete : (b : Board) (from lowest highest to : ℕ) (shift : ℤ) (knob position : ℕ) → wire_from (pos (board_number b) ∷ (pos from ∷ (pos lowest ∷ (pos highest ∷ (pos to ∷ (shift ∷ (pos knob ∷ (pos position ∷ [])))))))) ≡ Some (form.Wire b (record { from = from; lowest = lowest; highest = highest; to = to; shift = shift; knob = knob; position = position }))
 wire_complete Coupler from lowest highest to shift knob position = refl
 wire_complete Stop from lowest highest to shift knob position = refl

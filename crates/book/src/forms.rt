@@ -129,14 +129,14 @@ impl Form {
         ensures { result ≡ formed line head numbers.now }
     {
         let form = match (head, numbers) {
-            (Head::Keys, [row, reach]) => row_and_reach(*row, *reach).map(|(
-                row,
-                reach,
-            )| Form::Keys { row, reach }),
-            (Head::Rank, [row, reach]) => row_and_reach(*row, *reach).map(|(
-                row,
-                reach,
-            )| Form::Rank { row, reach }),
+            (Head::Keys, [row, reach]) => {
+                let given = row_and_reach(*row, *reach);
+                given.map(|(row, reach)| Form::Keys { row, reach })
+            }
+            (Head::Rank, [row, reach]) => {
+                let given = row_and_reach(*row, *reach);
+                given.map(|(row, reach)| Form::Rank { row, reach })
+            }
             (Head::Knob, [knob, steps, home]) => knob_form(*knob, *steps, *home),
             (Head::Piston, [piston, lowest, highest]) => piston_form(*piston, *lowest, *highest),
             (Head::Wire, [board, from, lowest, highest, to, shift, knob, position]) => wire_form([

@@ -27,7 +27,7 @@ pub struct Lexer<'a> {
     pub line: usize,
 }
 
-// How many letters stand at the front.
+// How many letters stand at the front. The two counts stay apart: a test that is handed over needs more clauses.
 fn letters(text: &[u8]) -> usize
     ensures value { result ≡ prefix_len letter text.now }
     ensures bound { result ≤ length text.now }

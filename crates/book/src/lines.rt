@@ -13,9 +13,7 @@ fn read_form(parts: Parts) -> Result<Form, BookFault>
     ensures { (s : Shape) → parts.entry.word.now ≡ s.head → Kept parts.entry.numbers s.numbers → result ≡ form_of parts.entry.line s }
 {
     let line = parts.line;
-    let Some(head) = Head::of(parts.word) else {
-        return Err(BookFault::Form { line });
-    };
+    let head = Head::of(parts.word).ok_or(BookFault::Form { line })?;
     Form::new(head, &parts.numbers, line)
 }
 
@@ -28,8 +26,6 @@ pub fn read_line(text: &[u8], line: usize) -> Result<Option<Form>, BookFault>
     if text.is_empty() {
         return Ok(None);
     }
-    let Some(parts) = read_shape(text, line) else {
-        return Err(BookFault::Shape { line });
-    };
-    Ok(Some(read_form(parts)?))
+    let parts = read_shape(text, line).ok_or(BookFault::Shape { line })?;
+    read_form(parts).map(Some)
 }

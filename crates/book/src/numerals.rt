@@ -2,7 +2,7 @@
 ghost use Rattle.std.specs.Prelude.{◌≡◌, ◌≤◌, IfSome};
 ghost use Rattle.book.specs.Numerals.{size_of, numeral};
 
-// The number that the digits write.
+// The number that the digits write: read here, since std's `parse` takes a plus and leading zeros too.
 fn size(digits: &[u8]) -> Option<u16>
     ensures value { result ≡ size_of digits.now }
     ensures bound { IfSome result (λ n. n ≤ 9999) }
@@ -32,9 +32,9 @@ pub fn read_numeral(text: &[u8]) -> Option<i16>
         return None;
     };
     if *first != b'-' {
-        return Some(size(text)? as i16);
+        return i16::try_from(size(text)?).ok();
     }
-    let n = size(rest)? as i16;
+    let n = i16::try_from(size(rest)?).ok()?;
     if n == 0 {
         return None;
     }

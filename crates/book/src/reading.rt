@@ -66,6 +66,7 @@ impl BookReader {
         let BookReader { wires } = self;
         let mut book = Book::blank(wires);
         let mut rest = text;
+        // Counted here, since what follows the last line end is judged otherwise, under the number that is reached.
         let mut line = 1;
         while let Some(end) = end_of_line(rest) {
             book.add_line(&rest[..end], line)?;

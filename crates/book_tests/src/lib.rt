@@ -8,11 +8,13 @@ mod tests {
     use std::process::Abort;
     use std::test::Fail;
 
-    // The number and the line of a book's fault, or two zeros where it is accepted.
-    fn judge(heap: Global, text: &[u8]) -> Result<(u8, usize), AllocError> {
+    // Nothing where the book is accepted, or the number and the line of its fault.
+    type Judged = Result<(), (u8, usize)>;
+
+    fn judge(heap: Global, text: &[u8]) -> Result<Judged, AllocError> {
         match BookReader::new(heap)?.read(text) {
-            Ok(_) => Ok((0, 0)),
-            Err(fault) => Ok((fault.number(), fault.line())),
+            Ok(_) => Ok(Ok(())),
+            Err(fault) => Ok(Err((fault.number(), fault.line()))),
         }
     }
 
@@ -30,30 +32,31 @@ mod tests {
 
     fn run(rt: &impl Abort, heap: Global, cases: &[Case]) -> Result<(), Fail> {
         for (text, number, line) in cases {
-            let (n, l) = judge(heap, text)?;
-            assert_eq!(rt; n, *number);
-            assert_eq!(rt; l, *line);
+            assert_eq!(rt; judge(heap, text)?, Err((*number, *line)));
         }
         Ok(())
     }
 
     #[test]
     fn good_books(rt: HostRuntime) -> Result<(), Fail> {
-        let cases: [Case; 12] = [
-            (b"", 0, 0),
-            (b"\n", 0, 0),
-            (b"\n\n\n", 0, 0),
-            (b"(keys 0 0)\n", 0, 0),
-            (b"(keys 15 128)\n(rank 15 128)\n", 0, 0),
-            (b"(keys 3 61)\n(rank 3 61)\n", 0, 0),
-            (b"(knob 0 2 0)\n(knob 63 16 15)\n", 0, 0),
-            (b"(piston 0 0 0)\n(piston 39 0 63)\n", 0, 0),
-            (b"(piston 1 63 63)\n", 0, 0),
-            (b"(wire 1 0 0 0 0 0 0 0)\n", 0, 0),
-            (b"(wire 2 9999 9999 9999 9999 -9999 9999 9999)\n", 0, 0),
-            (b"\n(keys 0 61)\n\n(rank 0 73)\n\n", 0, 0),
+        let texts: [&'static [u8]; 12] = [
+            b"",
+            b"\n",
+            b"\n\n\n",
+            b"(keys 0 0)\n",
+            b"(keys 15 128)\n(rank 15 128)\n",
+            b"(keys 3 61)\n(rank 3 61)\n",
+            b"(knob 0 2 0)\n(knob 63 16 15)\n",
+            b"(piston 0 0 0)\n(piston 39 0 63)\n",
+            b"(piston 1 63 63)\n",
+            b"(wire 1 0 0 0 0 0 0 0)\n",
+            b"(wire 2 9999 9999 9999 9999 -9999 9999 9999)\n",
+            b"\n(keys 0 61)\n\n(rank 0 73)\n\n",
         ];
-        run(&rt, rt.alloc(), &cases)
+        for text in texts {
+            assert_eq!(rt; judge(rt.alloc(), text)?, Ok(()));
+        }
+        Ok(())
     }
 
     // A byte that no book holds comes before everything else in its line.
@@ -176,19 +179,14 @@ mod tests {
     fn long_books(rt: HostRuntime) -> Result<(), Fail> {
         let heap = rt.alloc();
         let full = repeated(heap, b"\n", 65536)?;
-        assert_eq!(rt; judge(heap, full.as_slice())?.0, 0);
+        assert_eq!(rt; judge(heap, full.as_slice())?, Ok(()));
         let more = repeated(heap, b"\n", 65537)?;
-        let (number, line) = judge(heap, more.as_slice())?;
-        assert_eq!(rt; number, 31);
-        assert_eq!(rt; line, 0);
+        assert_eq!(rt; judge(heap, more.as_slice())?, Err((31, 0)));
         let bad = repeated(heap, b"?", 65537)?;
-        assert_eq!(rt; judge(heap, bad.as_slice())?.0, 31);
-        let last = repeated(heap, b"\n", 65535)?;
-        let mut late = last;
+        assert_eq!(rt; judge(heap, bad.as_slice())?, Err((31, 0)));
+        let mut late = repeated(heap, b"\n", 65535)?;
         late.push(b'?')?;
-        let (number, line) = judge(heap, late.as_slice())?;
-        assert_eq!(rt; number, 32);
-        assert_eq!(rt; line, 65536);
+        assert_eq!(rt; judge(heap, late.as_slice())?, Err((32, 65536)));
         Ok(())
     }
 
@@ -196,11 +194,9 @@ mod tests {
     fn many_wires(rt: HostRuntime) -> Result<(), Fail> {
         let heap = rt.alloc();
         let full = repeated(heap, b"(wire 1 0 0 0 0 0 0 0)\n", 256)?;
-        assert_eq!(rt; judge(heap, full.as_slice())?.0, 0);
+        assert_eq!(rt; judge(heap, full.as_slice())?, Ok(()));
         let more = repeated(heap, b"(wire 2 0 0 0 0 0 0 0)\n", 257)?;
-        let (number, line) = judge(heap, more.as_slice())?;
-        assert_eq!(rt; number, 36);
-        assert_eq!(rt; line, 257);
+        assert_eq!(rt; judge(heap, more.as_slice())?, Err((36, 257)));
         Ok(())
     }
 
@@ -208,10 +204,7 @@ mod tests {
     fn a_record(rt: HostRuntime) -> Result<(), Fail> {
         let text =
             b"(keys 1 61)\n(rank 2 73)\n(knob 4 3 1)\n(piston 5 1 4)\n\n(wire 2 1 0 60 2 -12 4 2)\n";
-        let book = match BookReader::new(rt.alloc())?.read(text) {
-            Ok(book) => book,
-            Err(_) => return Err(Fail::new("the book is refused")),
-        };
+        let book = BookReader::new(rt.alloc())?.read(text)?;
         assert_eq!(rt; book.keys(1), 61);
         assert_eq!(rt; book.keys(2), 0);
         assert_eq!(rt; book.keys(16), 0);
@@ -224,6 +217,7 @@ mod tests {
         assert_eq!(rt; book.wires_on(Board::Stop), 1);
         let wire = *book.wires().first().ok_or("no wire")?;
         assert_eq!(rt; wire.line, 6);
+        assert_eq!(rt; wire.board, Board::Stop);
         assert_eq!(rt; wire.wire.shift, -12);
         assert_eq!(rt; wire.wire.highest, 60);
         Ok(())

@@ -1,15 +1,11 @@
-use Rattle.std.proofs.Common.{None, ◌∙◌}
-use Rattle.book.proofs.Digital.{numeral-minus, minus-zero, minus-some}
+use Rattle.std.proofs.Common.{◌≡◌, pos, ◌∙◌, ap, rules, w16, of_z}
+use Rattle.book.proofs.Digital.{minus-some}
 use Rattle.book.proofs.numerals.read_numeral.Goals as goal
-
-pub returns-in_err-n : goal.returns-in_err-n
-returns-in_err-n c =
-    c.from_residual-in_err-n.ensures ∙ numeral-minus c.args.text.now None c.if-first-ne45.false c.in_err-n.ensures.value
-
-pub returns-then-n-eq0 : goal.returns-then-n-eq0
-returns-then-n-eq0 c =
-    minus-zero c.args.text.now c.in_ok-n.field-0 c.if-first-ne45.false c.in_ok-n.ensures.value c.if-n-eq0.true
 
 pub returns : goal.returns
 returns c =
-    minus-some c.args.text.now c.in_ok-n.field-0 c.if-first-ne45.false c.in_ok-n.ensures.value c.if-n-eq0.false c.in_ok-n.ensures.bound
+    let t = c.try_from-2.ensures in
+    let e = c.in_ok-n.ensures in
+    let n = c.in_ok-size-2 in
+    let is : c.in_ok-n.n ≡ pos n.field-0 = search rules in
+    minus-some c.args.text.now n.field-0 c.in_ok-n.n c.if-first-ne45.false n.ensures.value is (λ none. c.if-n-eq0.false (ap (of_z w16) (is ∙ ap pos none))) n.ensures.bound

@@ -1,5 +1,5 @@
 use Rattle.std.proofs.Common.{sym, arith}
-use Rattle.book.proofs.Digital.{value_room, size-bad, size-more, size-done, size-zero}
+use Rattle.book.proofs.Digital.{value_room, size-bad, size-more, size-done}
 use Rattle.book.proofs.numerals.size.Goals as goal
 
 pub overflow_mul-n : goal.overflow_mul-n
@@ -11,10 +11,6 @@ overflow_add-n c = omega (arith, value_room c.args.digits.now c.loop-b.b-index (
 pub loop-b-preserved : goal.loop-b-preserved
 loop-b-preserved c =
     size-more _ _ _ _ c.loop-b-test.true c.loop-b.invariant.0 c.loop-b.invariant.1 (sym c.if-not-is_ascii_digit.ensures.value) c.from.ensures
-
-pub returns-then-count-eq1 : goal.returns-then-count-eq1
-returns-then-count-eq1 c =
-    record { value = size-zero c.args.digits.now (omega arith) c.if-digits-eq48.true; bound = omega arith }
 
 pub returns-then-not-is_ascii_digit : goal.returns-then-not-is_ascii_digit
 returns-then-not-is_ascii_digit c =

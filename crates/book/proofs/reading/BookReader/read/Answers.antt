@@ -1,26 +1,14 @@
-use Rattle.std.proofs.Common.{◌+◌, Ok, Err, sym, refl, ap, ◌∙◌, subst, arith}
-use Rattle.std.proofs.lemmas.List.{nil_from_length, take_rest}
+use Rattle.std.proofs.Common.{◌+◌, Ok, Err, sym, refl, ap, ◌∙◌, subst}
+use Rattle.std.proofs.lemmas.List.{take_rest}
 use Rattle.std.proofs.lemmas.Result.{err_from_is_err_and}
 use Rattle.book.specs.Reading.{Answers, read_of}
-use Rattle.book.proofs.Course.{start, shorter, next-line, bad_line, bad_book, bad_end, good_end}
+use Rattle.book.proofs.Course.{next-line, bad_line, bad_book, bad_end, good_end}
 use Rattle.book.proofs.Judging.{judged, accepts}
 use Rattle.book.proofs.reading.BookReader.read.Goals as goal
-
-pub blank-book-requires : goal.blank-book-requires
-blank-book-requires c =
-    let v = c.args.self.wires in
-    (nil_from_length _ (omega (arith, v.ok.0, c.args.self.empty)), c.args.self.room)
-
-pub loop-end-init : goal.loop-end-init
-loop-end-init c = start _ _ c.blank-book.ensures
 
 pub loop-end-preserved : goal.loop-end-preserved
 loop-end-preserved c =
     next-line _ _ _ _ _ _ c.in-Some.end c.loop-end.invariant c.in-Some.ensures (take_rest c.loop-end.rest.now (c.in-Some.end + 1)) _ (c.in_ok-add_line.ensures _ c.loop-end.invariant.holds)
-
-pub loop-end-smaller : goal.loop-end-smaller
-loop-end-smaller c =
-    shorter c.loop-end.book c.loop-end.book _ _ _ _ c.in-Some.end c.loop-end.invariant c.in-Some.ensures (take_rest c.loop-end.rest.now (c.in-Some.end + 1))
 
 pub returns-in_err-add_line : goal.returns-in_err-add_line
 returns-in_err-add_line c =
@@ -28,9 +16,6 @@ returns-in_err-add_line c =
     let bad = bad_line _ c.add_line.new.self _ _ _ _ c.in-Some.end c.loop-end.invariant c.in-Some.ensures refl _ (c.in_err-add_line.ensures _ c.loop-end.invariant.holds) in
     let a = subst (λ r. Answers r (read_of c.args.text.now)) (sym (p.1 ∙ ap Err p.2)) (bad_book _ _ c.if-text-gt-MOST_BYTES.false bad) in
     record { answer = a; judged = judged c.args.text.now _ a; accepts = accepts c.args.text.now _ a }
-
-pub overflow_add-line : goal.overflow_add-line
-overflow_add-line c = omega (arith, c.loop-end.invariant.room, c.if-text-gt-MOST_BYTES.false)
 
 pub returns-in_err-read_end : goal.returns-in_err-read_end
 returns-in_err-read_end c =
