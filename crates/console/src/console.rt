@@ -31,11 +31,12 @@ impl<C: Chest> Console<C> {
         clear(&mut chest);
         reset_knobs(&mut chest, &knobs);
         let _ = chest.strobe();
+        let keys = KeyTable::new();
         Console {
             chest,
             knobs,
             pistons: pistons.released(),
-            keys: KeyTable::new(),
+            keys,
         }
     }
 

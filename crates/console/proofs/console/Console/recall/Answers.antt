@@ -24,13 +24,13 @@ pub returns-in_err-frame : goal.returns-in_err-frame
 returns-in_err-frame g c =
     let q = c.args.piston in
     let e = err_from_is_err_and c.from_residual-in_err-frame.result c.from_residual-in_err-frame.ensures.1 in
-    let fault = missing c.frame.result c.in_err-frame.field-0.0 (NeverCaptured q) c.in_err-frame.ensures.value in
+    let fault = missing _ c.in_err-frame.field-0.0 (NeverCaptured q) c.in_err-frame.ensures.value in
     record {
+      same = unchanged c.from_residual-in_err-frame.result c.args.self.now;
       follows = λ s p t.
           let scope = sym (ap (λ x. x.scope q) t.setup) ∙ sym c.scope.ensures ∙ c.in_ok-scope.ensures.ok_part in
           let never = sym (ap (λ (f : ℕ → Option Memory). f q) t.stored) ∙ ap (option_map (λ frame. memory s (λ k. get_or frame k 0) q)) (sym c.frame.ensures ∙ c.in_err-frame.ensures.ok_part) in
           refused_follows g.met.C.Chest.quiet (Recall q) (NeverCaptured q) _ t (e.1 ∙ ap Err (e.2 ∙ fault)) (λ i. piston_check (scope i) q (cond (is_some (never i)) (Ok tt) (Err (NeverCaptured q))));
-      same = unchanged c.from_residual-in_err-frame.result c.args.self.now;
     }
 
 pub returns : goal.returns
