@@ -1,5 +1,5 @@
 -- The answer for `Console::new`: cleared, turned home, strobed.
-use Rattle.std.proofs.Common.{◌≡◌, Some, refl, rules}
+use Rattle.std.proofs.Common.{Some, refl, rules}
 use Rattle.chest.specs.Places.{none}
 use Rattle.chest.specs.Meaning.{Meaning, strobe_after, with_register}
 use Rattle.chest.proofs.Walking.{stepped}
