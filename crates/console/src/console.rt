@@ -1,5 +1,5 @@
 // The console over any chest: its making and its eight calls.
-ghost use Rattle.std.specs.Prelude.{◌≡◌, ◌<◌, ◌≤◌, true, false, length, Ok, Err, IfOk, IfErr, OnErr, OnOk};
+ghost use Rattle.std.specs.Prelude.{◌≡◌, ◌<◌, ◌≤◌, true, length, Ok, Err, IfOk, IfErr, OnErr};
 ghost use Rattle.console.specs.Model.{key_check};
 ghost use Rattle.console.specs.Sending.{Sends, StillTracks, Linked};
 ghost use Rattle.console.specs.Tracks.{Follows, Makes};
@@ -31,11 +31,12 @@ impl<C: Chest> Console<C> {
         clear(&mut chest);
         reset_knobs(&mut chest, &knobs);
         let _ = chest.strobe();
+        let keys = KeyTable::new();
         Console {
             chest,
             knobs,
             pistons: pistons.released(),
-            keys: KeyTable::new(),
+            keys,
         }
     }
 

@@ -1,5 +1,5 @@
 // The piston table: the knobs that each defined piston takes, and what was captured on it.
-ghost use Rattle.std.specs.Prelude.{◌≡◌, ℕ, ◌<◌, true, false, ◌&&◌, length, is_some, Some, None, MatchOption, ◌≢◌};
+ghost use Rattle.std.specs.Prelude.{◌≡◌, ℕ, ◌<◌, true, false, is_some, Some, None, MatchOption, ◌≢◌};
 ghost use Rattle.std.specs.Option.{option_map};
 ghost use Rattle.console.specs.Pistons.{piston_at, scope_of, frame_of, in_range};
 

@@ -1,9 +1,7 @@
 // Walks over the knobs of a chest.
-ghost use Rattle.std.specs.Prelude.{◌≡◌, ℕ, ◌<◌, true, cond, ◌&&◌, is_some, Some, None, Option, slice_index};
-ghost use Rattle.std.specs.Option.{option_map};
+ghost use Rattle.std.specs.Prelude.{◌≡◌, ℕ, ◌<◌, ◌&&◌, Some, None, Option};
 ghost use Rattle.chest.specs.Meaning.{Becomes};
-ghost use Rattle.console.specs.KnobTable.{knob_at, steps_of, home_of};
-ghost use Rattle.console.specs.Pistons.{within};
+ghost use Rattle.console.specs.KnobTable.{home_of};
 ghost use Rattle.console.specs.Walks.{Turns, knobs_turned, homes_of, frame_in};
 
 use crate::knobs::KnobTable;

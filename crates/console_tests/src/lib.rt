@@ -2,6 +2,7 @@
 #![tactic(auto)]
 
 use board::board::RelayBoard;
+use board::fault::BoardFault;
 use board::wire::Wire;
 use bottom::magnet::MagnetChest;
 use bottom::midi_chest::MidiChest;
@@ -15,32 +16,21 @@ use console::pistons::PistonTable;
 
 pub mod foot;
 
-// A done call's count, or 10,000 and the fault's number.
-fn told(answer: Result<u32, PlayFault>) -> u32 {
-    match answer {
-        Ok(count) => count.min(9_999),
-        Err(fault) => 10_000 + fault.number() as u32,
-    }
-}
+// A call, and its answer: the number of pipes that change, or that of the fault.
+type Row = (Call, Result<u32, u8>);
 
 // The first call that answers something else than it must.
-fn first_wrong<C: Chest>(console: &mut Console<C>, run: &[(Call, u32)]) -> Option<usize> {
-    for (i, (call, answer)) in run.iter().enumerate() {
-        if told(console.perform(*call)) != *answer {
-            return Some(i);
-        }
-    }
-    None
+fn first_wrong<C: Chest>(console: &mut Console<C>, run: &[Row]) -> Option<usize> {
+    run.iter().position(|(call, answer)| console.perform(*call).map_err(PlayFault::number)
+        != *answer)
 }
 
-// Fits each wire; false where one is refused.
-fn fit_all<C: Chest>(board: &mut RelayBoard<C>, wires: &[Wire]) -> bool {
+// Fits each wire.
+fn fit_all<C: Chest>(board: &mut RelayBoard<C>, wires: &[Wire]) -> Result<(), BoardFault> {
     for wire in wires {
-        if board.fit(*wire).is_err() {
-            return false;
-        }
+        board.fit(*wire)?;
     }
-    true
+    Ok(())
 }
 
 // A wire from the first keys of division 0 to row 0.
@@ -77,19 +67,19 @@ mod tests {
     use super::*;
     use std::test::Fail;
 
+    fn over<C: Chest + Drop>(chest: C) -> Result<Console<C>, Fail> {
+        let knobs = knobs().ok_or("a knob is refused")?;
+        let pistons = pistons().ok_or("a piston is refused")?;
+        Ok(Console::new(chest, knobs, pistons))
+    }
+
     // 61 keys on division 0, 32 on division 1, 128 on division 15.
     fn plain() -> Result<Console<MagnetChest>, Fail> {
         let mut reaches = [0u8; 16];
         reaches[0] = 61;
         reaches[1] = 32;
         reaches[15] = 128;
-        let Some(knobs) = knobs() else {
-            return Err(Fail::new("a knob is refused"));
-        };
-        let Some(pistons) = pistons() else {
-            return Err(Fail::new("a piston is refused"));
-        };
-        Ok(Console::new(MagnetChest::new(reaches), knobs, pistons))
+        over(MagnetChest::new(reaches))
     }
 
     fn press(division: usize, key: usize) -> Call {
@@ -111,17 +101,17 @@ mod tests {
     #[test]
     fn sustained_keys_sound_on(rt: HostRuntime) -> Result<(), Fail> {
         let run = [
-            (press(0, 5), 1),
-            (press(0, 5), 10_003),
-            (sustain(0, true), 0),
-            (lift(0, 5), 0),
-            (press(0, 5), 0),
-            (sustain(0, true), 0),
-            (lift(0, 5), 0),
-            (press(1, 5), 1),
-            (sustain(0, false), 1),
-            (lift(1, 5), 1),
-            (lift(1, 5), 10_004),
+            (press(0, 5), Ok(1)),
+            (press(0, 5), Err(3)),
+            (sustain(0, true), Ok(0)),
+            (lift(0, 5), Ok(0)),
+            (press(0, 5), Ok(0)),
+            (sustain(0, true), Ok(0)),
+            (lift(0, 5), Ok(0)),
+            (press(1, 5), Ok(1)),
+            (sustain(0, false), Ok(1)),
+            (lift(1, 5), Ok(1)),
+            (lift(1, 5), Err(4)),
         ];
         assert_eq!(rt; first_wrong(&mut plain()?, &run), None);
         Ok(())
@@ -130,19 +120,19 @@ mod tests {
     #[test]
     fn keys_and_divisions_end(rt: HostRuntime) -> Result<(), Fail> {
         let run = [
-            (press(0, 60), 1),
-            (press(0, 61), 10_002),
-            (press(2, 0), 10_002),
-            (press(15, 127), 1),
-            (press(16, 200), 10_001),
-            (lift(16, 0), 10_001),
-            (lift(0, 61), 10_002),
-            (sustain(16, true), 10_001),
-            (sustain(15, true), 0),
-            (Call::Clear { division: 16 }, 10_001),
-            (Call::Clear { division: 15 }, 1),
-            (Call::Clear { division: 0 }, 1),
-            (Call::Clear { division: 0 }, 0),
+            (press(0, 60), Ok(1)),
+            (press(0, 61), Err(2)),
+            (press(2, 0), Err(2)),
+            (press(15, 127), Ok(1)),
+            (press(16, 200), Err(1)),
+            (lift(16, 0), Err(1)),
+            (lift(0, 61), Err(2)),
+            (sustain(16, true), Err(1)),
+            (sustain(15, true), Ok(0)),
+            (Call::Clear { division: 16 }, Err(1)),
+            (Call::Clear { division: 15 }, Ok(1)),
+            (Call::Clear { division: 0 }, Ok(1)),
+            (Call::Clear { division: 0 }, Ok(0)),
         ];
         assert_eq!(rt; first_wrong(&mut plain()?, &run), None);
         Ok(())
@@ -151,24 +141,24 @@ mod tests {
     #[test]
     fn knobs_and_pistons_end(rt: HostRuntime) -> Result<(), Fail> {
         let run = [
-            (turn(0, 1), 0),
-            (turn(0, 2), 10_006),
-            (turn(63, 15), 0),
-            (turn(63, 16), 10_006),
-            (turn(2, 0), 10_005),
-            (turn(64, 0), 10_005),
-            (Call::Recall { piston: 0 }, 10_008),
-            (Call::Capture { piston: 0 }, 0),
-            (Call::Recall { piston: 0 }, 0),
-            (Call::Recall { piston: 1 }, 10_008),
-            (Call::Capture { piston: 1 }, 0),
-            (Call::Recall { piston: 1 }, 0),
-            (Call::Capture { piston: 2 }, 10_007),
-            (Call::Recall { piston: 2 }, 10_007),
-            (Call::Capture { piston: 40 }, 10_007),
-            (Call::Recall { piston: 40 }, 10_007),
-            (Call::Cancel, 0),
-            (Call::Cancel, 0),
+            (turn(0, 1), Ok(0)),
+            (turn(0, 2), Err(6)),
+            (turn(63, 15), Ok(0)),
+            (turn(63, 16), Err(6)),
+            (turn(2, 0), Err(5)),
+            (turn(64, 0), Err(5)),
+            (Call::Recall { piston: 0 }, Err(8)),
+            (Call::Capture { piston: 0 }, Ok(0)),
+            (Call::Recall { piston: 0 }, Ok(0)),
+            (Call::Recall { piston: 1 }, Err(8)),
+            (Call::Capture { piston: 1 }, Ok(0)),
+            (Call::Recall { piston: 1 }, Ok(0)),
+            (Call::Capture { piston: 2 }, Err(7)),
+            (Call::Recall { piston: 2 }, Err(7)),
+            (Call::Capture { piston: 40 }, Err(7)),
+            (Call::Recall { piston: 40 }, Err(7)),
+            (Call::Cancel, Ok(0)),
+            (Call::Cancel, Ok(0)),
         ];
         assert_eq!(rt; first_wrong(&mut plain()?, &run), None);
         Ok(())
@@ -179,20 +169,20 @@ mod tests {
         let mut console = plain()?;
         assert_eq!(rt; console.chest().position(1).ok(), Some(2));
         let first = [
-            (turn(1, 3), 0),
-            (Call::Capture { piston: 39 }, 0),
-            (turn(1, 0), 0),
-            (turn(0, 1), 0),
+            (turn(1, 3), Ok(0)),
+            (Call::Capture { piston: 39 }, Ok(0)),
+            (turn(1, 0), Ok(0)),
+            (turn(0, 1), Ok(0)),
         ];
         assert_eq!(rt; first_wrong(&mut console, &first), None);
         let second = [
-            (Call::Capture { piston: 0 }, 0),
-            (Call::Recall { piston: 39 }, 0),
+            (Call::Capture { piston: 0 }, Ok(0)),
+            (Call::Recall { piston: 39 }, Ok(0)),
         ];
         assert_eq!(rt; first_wrong(&mut console, &second), None);
         assert_eq!(rt; console.chest().position(1).ok(), Some(3));
         assert_eq!(rt; console.chest().position(0).ok(), Some(0));
-        assert_eq!(rt; told(console.recall(0)), 0);
+        assert_eq!(rt; console.recall(0), Ok(0));
         assert_eq!(rt; console.chest().position(1).ok(), Some(0));
         assert_eq!(rt; console.chest().position(0).ok(), Some(1));
         assert_eq!(rt; console.cancel(), 0);
@@ -208,49 +198,32 @@ mod tests {
         let mut pipes = [0u8; 16];
         pipes[0] = 85;
         let mut board = RelayBoard::new(MagnetChest::new(pipes), keys);
-        if !fit_all(
-            &mut board,
-            &[wire(61, 0, 0), wire(61, 0, 1), wire(61, 12, 63)],
-        ) {
-            return Err(Fail::new("a stop is refused"));
-        }
+        let stops = [wire(61, 0, 0), wire(61, 0, 1), wire(61, 12, 63)];
+        fit_all(&mut board, &stops).map_err(|_| "a stop is refused")?;
         Ok(board)
-    }
-
-    fn over<C: Chest>(chest: C) -> Result<Console<C>, Fail>
-    where
-        C: Drop,
-    {
-        let Some(knobs) = knobs() else {
-            return Err(Fail::new("a knob is refused"));
-        };
-        let Some(pistons) = pistons() else {
-            return Err(Fail::new("a piston is refused"));
-        };
-        Ok(Console::new(chest, knobs, pistons))
     }
 
     // A piston swaps two stops that feed one held pipe, and a turn moves what only the sustain holds.
     #[test]
     fn stops_under_held_keys(rt: HostRuntime) -> Result<(), Fail> {
         let run = [
-            (turn(63, 0), 0),
-            (turn(0, 1), 0),
-            (turn(1, 0), 0),
-            (Call::Capture { piston: 39 }, 0),
-            (turn(0, 0), 0),
-            (turn(1, 1), 0),
-            (Call::Capture { piston: 0 }, 0),
-            (press(0, 5), 1),
-            (Call::Recall { piston: 39 }, 0),
-            (Call::Recall { piston: 0 }, 0),
-            (turn(1, 0), 1),
-            (sustain(0, true), 0),
-            (lift(0, 5), 0),
-            (turn(0, 1), 1),
-            (turn(63, 1), 1),
-            (sustain(0, false), 2),
-            (Call::Cancel, 0),
+            (turn(63, 0), Ok(0)),
+            (turn(0, 1), Ok(0)),
+            (turn(1, 0), Ok(0)),
+            (Call::Capture { piston: 39 }, Ok(0)),
+            (turn(0, 0), Ok(0)),
+            (turn(1, 1), Ok(0)),
+            (Call::Capture { piston: 0 }, Ok(0)),
+            (press(0, 5), Ok(1)),
+            (Call::Recall { piston: 39 }, Ok(0)),
+            (Call::Recall { piston: 0 }, Ok(0)),
+            (turn(1, 0), Ok(1)),
+            (sustain(0, true), Ok(0)),
+            (lift(0, 5), Ok(0)),
+            (turn(0, 1), Ok(1)),
+            (turn(63, 1), Ok(1)),
+            (sustain(0, false), Ok(2)),
+            (Call::Cancel, Ok(0)),
         ];
         assert_eq!(rt; first_wrong(&mut over(stop_board()?)?, &run), None);
         Ok(())
@@ -266,20 +239,18 @@ mod tests {
             knob: 64,
             ..wire(61, 0, 0)
         };
-        if !fit_all(&mut couplers, &[always, wire(49, 12, 1)]) {
-            return Err(Fail::new("a coupler is refused"));
-        }
+        fit_all(&mut couplers, &[always, wire(49, 12, 1)]).map_err(|_| "a coupler is refused")?;
         let run = [
-            (turn(63, 0), 0),
-            (turn(1, 0), 0),
-            (turn(0, 1), 0),
-            (press(0, 0), 1),
-            (press(0, 12), 1),
-            (turn(63, 1), 1),
-            (turn(1, 1), 1),
-            (lift(0, 12), 1),
-            (Call::Clear { division: 0 }, 3),
-            (Call::Cancel, 0),
+            (turn(63, 0), Ok(0)),
+            (turn(1, 0), Ok(0)),
+            (turn(0, 1), Ok(0)),
+            (press(0, 0), Ok(1)),
+            (press(0, 12), Ok(1)),
+            (turn(63, 1), Ok(1)),
+            (turn(1, 1), Ok(1)),
+            (lift(0, 12), Ok(1)),
+            (Call::Clear { division: 0 }, Ok(3)),
+            (Call::Cancel, Ok(0)),
         ];
         assert_eq!(rt; first_wrong(&mut over(couplers)?, &run), None);
         Ok(())
@@ -290,15 +261,13 @@ mod tests {
         let mut reaches = [0u8; 16];
         reaches[0] = 73;
         let mut stops = RelayBoard::new(MidiChest::new(reaches), reaches);
-        let stopped = fit_all(&mut stops, &[wire(61, 12, 0)]);
+        fit_all(&mut stops, &[wire(61, 12, 0)]).map_err(|_| "a stop is refused")?;
         let mut couplers = RelayBoard::new(stops, reaches);
         let always = Wire {
             knob: 64,
             ..wire(61, 0, 0)
         };
-        if !fit_all(&mut couplers, &[always]) || !stopped {
-            return Err(Fail::new("a wire is refused"));
-        }
+        fit_all(&mut couplers, &[always]).map_err(|_| "a coupler is refused")?;
         over(couplers)
     }
 
@@ -313,12 +282,12 @@ mod tests {
     #[test]
     fn messages_of_a_stack(rt: HostRuntime) -> Result<(), Fail> {
         let mut console = sending()?;
-        assert_eq!(rt; told(console.press(0, 5)), 0);
+        assert_eq!(rt; console.press(0, 5), Ok(0));
         assert_eq!(rt; sent(&mut console), (0, [0; 4]));
-        assert_eq!(rt; told(console.turn(0, 1)), 1);
+        assert_eq!(rt; console.turn(0, 1), Ok(1));
         assert_eq!(rt; sent(&mut console), (3, [0x90, 17, 64, 0]));
         assert_eq!(rt; sent(&mut console), (0, [0; 4]));
-        assert_eq!(rt; told(console.lift(0, 5)), 1);
+        assert_eq!(rt; console.lift(0, 5), Ok(1));
         assert_eq!(rt; sent(&mut console), (3, [0x80, 17, 64, 0]));
         Ok(())
     }

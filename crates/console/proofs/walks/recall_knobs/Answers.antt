@@ -1,4 +1,4 @@
-use Rattle.std.proofs.Common.{◌≡◌, rules}
+use Rattle.std.proofs.Common.{rules}
 use Rattle.console.specs.Walks.{frame_in}
 use Rattle.console.proofs.walks.recall_knobs.Goals as goal
 

@@ -1,4 +1,4 @@
-use Rattle.std.proofs.Common.{◌≡◌, Some, rules, arith}
+use Rattle.std.proofs.Common.{Some, rules, arith}
 use Rattle.console.specs.KnobTable.{home_of}
 use Rattle.console.proofs.Homes.{home_at_all}
 use Rattle.console.proofs.walks.reset_knobs.Goals as goal

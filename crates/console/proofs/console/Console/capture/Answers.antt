@@ -1,5 +1,5 @@
 -- The answers for `Console::capture`.
-use Rattle.std.proofs.Common.{◌≡◌, Ok, Err, sym, refl, ap, ◌∙◌}
+use Rattle.std.proofs.Common.{Ok, Err, sym, ap, ◌∙◌}
 use Rattle.std.proofs.lemmas.Result.{err_from_is_err_and}
 use Rattle.console.specs.declared.call.Call.TheVariants.{Capture}
 use Rattle.console.specs.declared.fault.PlayFault.TheVariants.{Piston}

@@ -2,34 +2,26 @@
 use Rattle.console.proofs.Records.{called}
 use Rattle.console.proofs.console.Console.perform.Goals as goal
 
-pub returns-in-Press : goal.returns-in-Press
-returns-in-Press g c =
-    record { follows = called g.C.Chest.meaning g.C.Chest.settled c.in-Press.is c.press.ensures.follows; same = c.press.ensures.same }
+pub returns-in-Press-clause-follows : goal.returns-in-Press-clause-follows
+returns-in-Press-clause-follows g c = called g.C.Chest.meaning g.C.Chest.settled c.in-Press.is c.press.ensures.follows
 
-pub returns-in-Lift : goal.returns-in-Lift
-returns-in-Lift g c =
-    record { follows = called g.C.Chest.meaning g.C.Chest.settled c.in-Lift.is c.lift.ensures.follows; same = c.lift.ensures.same }
+pub returns-in-Lift-clause-follows : goal.returns-in-Lift-clause-follows
+returns-in-Lift-clause-follows g c = called g.C.Chest.meaning g.C.Chest.settled c.in-Lift.is c.lift.ensures.follows
 
-pub returns-in-Sustain : goal.returns-in-Sustain
-returns-in-Sustain g c =
-    record { follows = called g.C.Chest.meaning g.C.Chest.settled c.in-Sustain.is c.sustain.ensures.follows; same = c.sustain.ensures.same }
+pub returns-in-Sustain-clause-follows : goal.returns-in-Sustain-clause-follows
+returns-in-Sustain-clause-follows g c = called g.C.Chest.meaning g.C.Chest.settled c.in-Sustain.is c.sustain.ensures.follows
 
-pub returns-in-Clear : goal.returns-in-Clear
-returns-in-Clear g c =
-    record { follows = called g.C.Chest.meaning g.C.Chest.settled c.in-Clear.is c.clear.ensures.follows; same = c.clear.ensures.same }
+pub returns-in-Clear-clause-follows : goal.returns-in-Clear-clause-follows
+returns-in-Clear-clause-follows g c = called g.C.Chest.meaning g.C.Chest.settled c.in-Clear.is c.clear.ensures.follows
 
-pub returns-in-Turn : goal.returns-in-Turn
-returns-in-Turn g c =
-    record { follows = called g.C.Chest.meaning g.C.Chest.settled c.in-Turn.is c.turn.ensures.follows; same = c.turn.ensures.same }
+pub returns-in-Turn-clause-follows : goal.returns-in-Turn-clause-follows
+returns-in-Turn-clause-follows g c = called g.C.Chest.meaning g.C.Chest.settled c.in-Turn.is c.turn.ensures.follows
 
-pub returns-in-Capture : goal.returns-in-Capture
-returns-in-Capture g c =
-    record { follows = called g.C.Chest.meaning g.C.Chest.settled c.in-Capture.is c.capture.ensures.follows; same = c.capture.ensures.same }
+pub returns-in-Capture-clause-follows : goal.returns-in-Capture-clause-follows
+returns-in-Capture-clause-follows g c = called g.C.Chest.meaning g.C.Chest.settled c.in-Capture.is c.capture.ensures.follows
 
-pub returns-in-Recall : goal.returns-in-Recall
-returns-in-Recall g c =
-    record { follows = called g.C.Chest.meaning g.C.Chest.settled c.in-Recall.is c.recall.ensures.follows; same = c.recall.ensures.same }
+pub returns-in-Recall-clause-follows : goal.returns-in-Recall-clause-follows
+returns-in-Recall-clause-follows g c = called g.C.Chest.meaning g.C.Chest.settled c.in-Recall.is c.recall.ensures.follows
 
-pub returns-in-Cancel : goal.returns-in-Cancel
-returns-in-Cancel g c =
-    record { follows = called g.C.Chest.meaning g.C.Chest.settled c.in-Cancel.is c.cancel.ensures; same = tt }
+pub returns-in-Cancel-clause-follows : goal.returns-in-Cancel-clause-follows
+returns-in-Cancel-clause-follows g c = called g.C.Chest.meaning g.C.Chest.settled c.in-Cancel.is c.cancel.ensures

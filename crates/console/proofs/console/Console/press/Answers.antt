@@ -1,5 +1,5 @@
 -- The answers for `Console::press`: refusals, and a key that goes down.
-use Rattle.std.proofs.Common.{◌≡◌, ◌<◌, true, Err, sym, refl, ap, ◌∙◌, arith}
+use Rattle.std.proofs.Common.{true, Err, refl, ap, ◌∙◌, arith}
 use Rattle.std.proofs.lemmas.Result.{err_from_is_err_and}
 use Rattle.std.proofs.lemmas.Bool.Decides.{nat_tests}
 use Rattle.console.specs.declared.call.Call.TheVariants.{Press}

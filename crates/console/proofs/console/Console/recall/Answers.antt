@@ -1,5 +1,5 @@
 -- The answers for `Console::recall`.
-use Rattle.std.proofs.Common.{◌≡◌, ℕ, cond, get_or, is_some, Some, None, Ok, Err, Option, sym, refl, ap, ◌∙◌}
+use Rattle.std.proofs.Common.{ℕ, cond, get_or, is_some, Ok, Err, Option, sym, refl, ap, ◌∙◌}
 use Rattle.std.specs.Option.{option_map}
 use Rattle.std.proofs.lemmas.Result.{err_from_is_err_and}
 use Rattle.console.specs.declared.call.Call.TheVariants.{Recall}
@@ -20,18 +20,17 @@ returns-in_err-scope g c =
       same = unchanged c.from_residual.result c.args.self.now;
     }
 
-pub returns-in_err-frame : goal.returns-in_err-frame
-returns-in_err-frame g c =
+pub returns-in_err-frame-clause-same : goal.returns-in_err-frame-clause-same
+returns-in_err-frame-clause-same g c = unchanged c.from_residual-in_err-frame.result c.args.self.now
+
+pub returns-in_err-frame-clause-follows : goal.returns-in_err-frame-clause-follows
+returns-in_err-frame-clause-follows g c = λ s p t.
     let q = c.args.piston in
     let e = err_from_is_err_and c.from_residual-in_err-frame.result c.from_residual-in_err-frame.ensures.1 in
     let fault = missing c.frame.result c.in_err-frame.field-0.0 (NeverCaptured q) c.in_err-frame.ensures.value in
-    record {
-      follows = λ s p t.
-          let scope = sym (ap (λ x. x.scope q) t.setup) ∙ sym c.scope.ensures ∙ c.in_ok-scope.ensures.ok_part in
-          let never = sym (ap (λ (f : ℕ → Option Memory). f q) t.stored) ∙ ap (option_map (λ frame. memory s (λ k. get_or frame k 0) q)) (sym c.frame.ensures ∙ c.in_err-frame.ensures.ok_part) in
-          refused_follows g.met.C.Chest.quiet (Recall q) (NeverCaptured q) _ t (e.1 ∙ ap Err (e.2 ∙ fault)) (λ i. piston_check (scope i) q (cond (is_some (never i)) (Ok tt) (Err (NeverCaptured q))));
-      same = unchanged c.from_residual-in_err-frame.result c.args.self.now;
-    }
+    let scope = sym (ap (λ x. x.scope q) t.setup) ∙ sym c.scope.ensures ∙ c.in_ok-scope.ensures.ok_part in
+    let never = sym (ap (λ (f : ℕ → Option Memory). f q) t.stored) ∙ ap (option_map (λ frame. memory s (λ k. get_or frame k 0) q)) (sym c.frame.ensures ∙ c.in_err-frame.ensures.ok_part) in
+    refused_follows g.met.C.Chest.quiet (Recall q) (NeverCaptured q) _ t (e.1 ∙ ap Err (e.2 ∙ fault)) (λ i. piston_check (scope i) q (cond (is_some (never i)) (Ok tt) (Err (NeverCaptured q))))
 
 pub returns : goal.returns
 returns g c =

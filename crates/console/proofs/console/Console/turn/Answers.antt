@@ -1,5 +1,5 @@
 -- The answers for `Console::turn`.
-use Rattle.std.proofs.Common.{◌≡◌, ◌<◌, ◌≤◌, Some, None, Err, sym, refl, ap, ◌∙◌, arith}
+use Rattle.std.proofs.Common.{◌<◌, ◌≤◌, Err, sym, refl, ap, ◌∙◌, arith}
 use Rattle.std.proofs.lemmas.Result.{err_from_is_err_and}
 use Rattle.chest.specs.Meaning.{Panel, with_panel, knob_to}
 use Rattle.chest.proofs.Calls.{turn_done}
