@@ -38,6 +38,8 @@ impl MidiChest {
     }
 }
 
+// The same calls of the foot as a magnet chest's, but each that changes it promises two things more: that nothing is
+// sent, and that a run goes on.
 impl Chest for MidiChest {
     ghost meaning = { midi_meaning };
 

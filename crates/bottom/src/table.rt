@@ -50,7 +50,7 @@ impl PipeTable {
     }
 }
 
-// At how many places two tables differ.
+// At how many places two tables differ. It is given their bytes, since a proof knows no range of those in a field.
 pub(crate) fn difference(these: &[u8; BYTES], others: &[u8; BYTES]) -> u32
     ensures { result ≡ changed (shown these.now) (shown others.now) }
 {

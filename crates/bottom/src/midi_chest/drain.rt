@@ -33,6 +33,7 @@ impl MidiChest {
         ensures run { (line : List ℕ) → Run self.old line → Run self.new (line ++ take result out.new) }
     {
         let mut written = 0;
+        // by the bytes' numbers, since one of the two tables changes on the way
         for byte in 0..BYTES {
             if out.len() - written < MESSAGE {
                 break;
