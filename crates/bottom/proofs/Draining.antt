@@ -1,12 +1,11 @@
 -- One place more of a drain: it stays as it is, or one message is written. Assumes nothing.
-use Rattle.std.proofs.Common.{◌≡◌, ℕ, zero, suc, ◌+◌, ◌-◌, ◌*◌, ◌/◌, ◌%◌, ◌<◌, ◌≤◌, Bool, true, false, ◌&&◌, ltb, ◌⊎◌, List, [], ◌∷◌, ◌++◌, length, get_or, take, drop, sym, refl, ap, ◌∙◌, subst, inl, inr, append-nil, append_assoc, add-one, arith, length-append, length-drop}
+use Rattle.std.proofs.Common.{◌≡◌, ℕ, zero, suc, ◌+◌, ◌-◌, ◌*◌, ◌/◌, ◌%◌, ◌<◌, ◌≤◌, Bool, true, false, ◌⊎◌, List, [], ◌∷◌, ◌++◌, length, take, drop, sym, refl, ap, ◌∙◌, subst, inl, inr, append-nil, append_assoc, add-one, arith, length-append, length-drop}
 use Rattle.std.proofs.Math.Seq.{take-append-add, drop-append-add}
 use Rattle.std.proofs.lemmas.List.{take_all, drop_all, take-append-drop, drop-drop, flat_map_more, length-take-le}
 use Rattle.std.proofs.lemmas.Bool.Decides.{nat_tests}
 use Rattle.chest.specs.Places.{Places, put, differ}
 use Rattle.bottom.specs.Drain.{count_of_places, holds, message_bytes, spelled, agreed, written_below, drained}
 use Rattle.bottom.specs.Draining.{Wrote, UpTo, GoesOn}
-use Rattle.bottom.specs.Layout.{bit_of, shown}
 use Rattle.bottom.proofs.Pending.{Turn, still, full, next, turn, written_none, written-still, written-full, written_next, agreed-push, length-spelled}
 
 -- what a place holds, by its number
@@ -150,20 +149,6 @@ module _ (t start : Places) (buffer : List ℕ) (sent : Places) (front rest : Li
   stretch_full zero n h u = up_to_at n (n + 0) t start buffer sent front rest (omega arith) u
   stretch_full (suc d) n h u =
       up_to_at (n + d + 1) (n + suc d) t start buffer sent front rest (omega arith) (stay_full t start buffer (n + d) sent front rest (stretch_full d n h u) h)
-
-differ_same : (b : Bool) → differ b b ≡ false
-differ_same true = refl
-differ_same false = refl
-
--- where two tables have one byte in common, the eight places of that byte do not differ
-pub byte_differs : (xs ys : List ℕ) (i k : ℕ) → get_or xs i 0 ≡ get_or ys i 0 → k < 8 → differ (holds (shown xs) (8 * i + k)) (holds (shown ys) (8 * i + k)) ≡ false
-byte_differs xs ys i k e h =
-    let at : 16 * ((8 * i + k) / 128) + (8 * i + k) % 128 / 8 ≡ i = omega arith in
-    (λ j. differ (ltb ((8 * i + k) / 128) 16 && (ltb ((8 * i + k) % 128) 128 && bit_of (byte at j) ((8 * i + k) % 128 % 8))) (holds (shown ys) (8 * i + k)))
-    ∙ differ_same (holds (shown ys) (8 * i + k))
-  where
-    byte : 16 * ((8 * i + k) / 128) + (8 * i + k) % 128 / 8 ≡ i → get_or xs (16 * ((8 * i + k) / 128) + (8 * i + k) % 128 / 8) 0 ≡ get_or ys (16 * ((8 * i + k) / 128) + (8 * i + k) % 128 / 8) 0
-    byte at = ap (λ n. get_or xs n 0) at ∙ e ∙ ap (λ n. get_or ys n 0) (sym at)
 
 -- at the start of a drain nothing is written, and after the last place it is done
 pub up_to_none : (t s : Places) (out : List ℕ) → UpTo 0 t s out s [] out

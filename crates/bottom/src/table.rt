@@ -43,10 +43,9 @@ impl PipeTable {
 
     // Whether the eight places of one byte stand the same in two tables.
     pub(crate) fn agrees(&self, other: &PipeTable, byte: usize) -> bool
-        requires { byte < 256 }
         ensures { result ≡ true → (k : ℕ) → k < 8 → differ (holds (shown self.now.bytes) (8 * byte + k)) (holds (shown other.now.bytes) (8 * byte + k)) ≡ false }
     {
-        self.bytes[byte] == other.bytes[byte]
+        self.bytes.get(byte) == other.bytes.get(byte)
     }
 }
 

@@ -76,7 +76,6 @@ impl MidiChest {
 
     // Whether no pipe of one byte is pending.
     fn is_still(&self, byte: usize) -> bool
-        requires { byte < 256 }
         ensures { result ≡ true → (k : ℕ) → k < 8 → differ (holds (midi_sent self.now) (8 * byte + k)) (holds (midi_meaning self.now).speaking (8 * byte + k)) ≡ false }
     {
         self.sent.agrees(&self.foot.bits.speaking, byte)
