@@ -1,17 +1,8 @@
 -- What a bottom chest keeps: its positions below 16, and its pipes below their reaches. Assumes nothing.
-use Rattle.std.proofs.Common.{◌≡◌, ℕ, ◌<◌, Bool, true, cond, ltb, ◌≢◌, List, length, get_or, set, replicate, sym, ap, ◌∙◌, ⊎_elim, arith, get_or-set_other, get_or-set_same}
-use Rattle.std.proofs.lemmas.Bool.{cases_eq}
+use Rattle.std.proofs.Common.{◌≡◌, ℕ, ◌<◌, Bool, true, cond, ltb, get_or, replicate, sym, ap, ◌∙◌, arith}
 use Rattle.std.proofs.lemmas.Bool.Decides.{nat_tests}
 use Rattle.chest.specs.Places.{Places, put}
 use Rattle.bottom.proofs.Tables.{zeros}
-
--- one element more below a bound that all keep
-pub set_below : (xs : List ℕ) (i v b : ℕ) → i < length xs → v < b → ((k : ℕ) → get_or xs k 0 < b) → (k : ℕ) → get_or (set xs i v) k 0 < b
-set_below xs i v b hi hv all k =
-    ⊎_elim
-    (λ (e : k ≡ i). let same = get_or-set_same xs i v 0 hi in let at = ap (λ n. get_or (set xs i v) n 0) e in omega arith)
-    (λ (ne : k ≢ i). let other = get_or-set_other xs i k v 0 ne in let old = all k in omega arith)
-    (cases_eq k i)
 
 -- a place below its reach put into a set whose places all are
 pub put-inside : (s t : Places) (reach : ℕ → ℕ) (row place : ℕ) (on : Bool) → t ≡ put s row place on → place < reach row → ((r p : ℕ) → s r p ≡ true → p < reach r) → (r p : ℕ) → t r p ≡ true → p < reach r

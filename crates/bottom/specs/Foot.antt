@@ -10,9 +10,9 @@ abbrev pub foot_meaning : Foot → Meaning
 foot_meaning f =
     record {
       reach = λ r. cond (nat_lt r 16) (slice_index f.reaches r) 0;
-      register = shown f.bits.set;
+      register = shown f.bits.set.bytes;
       panel = λ k. cond (nat_lt k 64) (slice_index f.positions k) 0;
-      speaking = shown f.bits.speaking;
+      speaking = shown f.bits.speaking.bytes;
       strobes = f.strobes;
       rule = λ panel register. register;
     }

@@ -15,7 +15,7 @@ MidiSettled c = Unit {0}
 
 -- the pipes that speak as far as its receiver was told
 abbrev pub midi_sent : MidiChest → Places
-midi_sent c = shown c.sent
+midi_sent c = shown c.sent.bytes
 
 -- its drain into a buffer of so many bytes
 abbrev pub midi_drained : MidiChest → ℕ → Drained

@@ -2,7 +2,7 @@
 ghost use Rattle.std.specs.Prelude.{◌≡◌};
 ghost use Rattle.bottom.specs.Faults.{number_of};
 
-#[derive(Clone, Copy)]
+#[derive(Clone, Copy, Debug, PartialEq)]
 pub enum BufferFault {
     // The buffer has another length than 256 bytes.
     Length { len: usize },
@@ -13,7 +13,7 @@ impl BufferFault {
         ensures { result ≡ number_of self }
     {
         match self {
-            BufferFault::Length { len: _ } => 21,
+            BufferFault::Length { .. } => 21,
         }
     }
 }

@@ -15,6 +15,6 @@ pub struct Foot {
     pub(crate) bits: Bits,
     ghost low: { (r : ℕ) → slice_index reaches r ≤ 128 },
     ghost stands: { (k : ℕ) → slice_index positions k < 16 },
-    ghost inside: { (r p : ℕ) → shown bits.set r p ≡ true → p < slice_index reaches r },
+    ghost inside: { (r p : ℕ) → shown bits.set.bytes r p ≡ true → p < slice_index reaches r },
     ghost counted: { strobes < 2 ^ 32 },
 }

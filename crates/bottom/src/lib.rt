@@ -7,3 +7,4 @@ mod foot;
 pub mod laws;
 pub mod magnet;
 pub mod midi_chest;
+mod table;

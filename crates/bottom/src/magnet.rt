@@ -6,9 +6,9 @@ ghost use Rattle.bottom.specs.Layout.{shown};
 ghost use Rattle.bottom.specs.Magnet.{magnet_meaning, MagnetSettled};
 ghost use Rattle.std.proofs.Common.{rules};
 
-use crate::bits::BYTES;
 use crate::fault::BufferFault;
 use crate::foot::Foot;
+use crate::table::BYTES;
 use chest::chest::{Chest, ROWS};
 use chest::fault::ChestFault;
 
@@ -37,7 +37,7 @@ impl MagnetChest {
         if buffer.len() != BYTES {
             return Err(BufferFault::Length { len: buffer.len() });
         }
-        buffer.copy_from_slice(&self.foot.bits.speaking);
+        buffer.copy_from_slice(&self.foot.bits.speaking.bytes);
         Ok(())
     }
 }

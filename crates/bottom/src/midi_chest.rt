@@ -1,15 +1,15 @@
 // The MIDI chest: what changes among its speaking pipes is sent as notes to a receiver.
 ghost use Rattle.std.specs.Prelude.{◌≡◌, ℕ, List, [], OnErr};
 ghost use Rattle.chest.specs.Places.{none, changed};
-ghost use Rattle.chest.specs.Meaning.{set_answer, set_after, turn_answer, turn_after, strobe_after};
+ghost use Rattle.chest.specs.Meaning.{Becomes, set_answer, set_after, turn_answer, turn_after, strobe_after};
 ghost use Rattle.bottom.specs.Foot.{new_bottom};
 ghost use Rattle.bottom.specs.Midi.{midi_meaning, MidiSettled, midi_sent};
 ghost use Rattle.bottom.specs.Run.{Run};
 ghost use Rattle.bottom.specs.Sending.{MidiSends};
 ghost use Rattle.std.proofs.Common.{rules};
 
-use crate::bits::BYTES;
 use crate::foot::Foot;
+use crate::table::PipeTable;
 use chest::chest::{Chest, ROWS};
 use chest::fault::ChestFault;
 use chest::sender::Sender;
@@ -19,8 +19,8 @@ mod drain;
 #[derive(Drop)]
 pub struct MidiChest {
     foot: Foot,
-    // what the receiver was told of each pipe, in the layout of the speaking bits
-    sent: [u8; BYTES],
+    // what the receiver was told of each pipe
+    sent: PipeTable,
 }
 
 impl MidiChest {
@@ -33,11 +33,13 @@ impl MidiChest {
     {
         MidiChest {
             foot: Foot::new(reaches),
-            sent: [0u8; BYTES],
+            sent: PipeTable::none(),
         }
     }
 }
 
+// The same calls of the foot as a magnet chest's, but each that changes it promises two things more: that nothing is
+// sent, and that a run goes on.
 impl Chest for MidiChest {
     ghost meaning = { midi_meaning };
 
@@ -58,7 +60,7 @@ impl Chest for MidiChest {
     fn set(&mut self, row: usize, place: usize, on: bool) -> Result<(), ChestFault>
         ensures answer { result ≡ set_answer (midi_meaning self.old) row place }
         ensures same { OnErr result (self.new ≡ self.old) }
-        ensures after { MidiSettled self.old → MidiSettled self.new × (midi_meaning self.new ≡ set_after (midi_meaning self.old) row place on) }
+        ensures after { Becomes midi_meaning MidiSettled self.old self.new (set_after (midi_meaning self.old) row place on) }
         ensures sent { self.new.sent ≡ self.old.sent }
         ensures run { (line : List ℕ) → Run self.old line → Run self.new line }
     {
@@ -68,7 +70,7 @@ impl Chest for MidiChest {
     fn turn(&mut self, knob: usize, position: usize) -> Result<(), ChestFault>
         ensures answer { result ≡ turn_answer knob position }
         ensures same { OnErr result (self.new ≡ self.old) }
-        ensures after { MidiSettled self.old → MidiSettled self.new × (midi_meaning self.new ≡ turn_after (midi_meaning self.old) knob position) }
+        ensures after { Becomes midi_meaning MidiSettled self.old self.new (turn_after (midi_meaning self.old) knob position) }
         ensures sent { self.new.sent ≡ self.old.sent }
         ensures run { (line : List ℕ) → Run self.old line → Run self.new line }
     {
@@ -77,7 +79,7 @@ impl Chest for MidiChest {
 
     fn strobe(&mut self) -> u32
         ensures answer { result ≡ changed (midi_meaning self.old).speaking (midi_meaning self.new).speaking }
-        ensures after { MidiSettled self.old → MidiSettled self.new × (midi_meaning self.new ≡ strobe_after (midi_meaning self.old)) }
+        ensures after { Becomes midi_meaning MidiSettled self.old self.new (strobe_after (midi_meaning self.old)) }
         ensures sent { self.new.sent ≡ self.old.sent }
         ensures run { (line : List ℕ) → Run self.old line → Run self.new line }
     {

@@ -3,12 +3,12 @@
 
 #[cfg(test)]
 mod tests {
+    use bottom::fault::BufferFault;
     use bottom::magnet::MagnetChest;
     use bottom::midi_chest::MidiChest;
     use chest::chest::Chest;
     use chest::fault::ChestFault;
     use std::process::Abort;
-    use std::test::Fail;
 
     // What no call may write: the content of a buffer before it.
     const OLD: u8 = 0xee;
@@ -18,68 +18,57 @@ mod tests {
         [0, 128, 129, 255, 61, 0, 0, 0, 0, 0, 0, 0, 0, 0, 1, 128]
     }
 
-    // The number of the fault, or 0.
-    fn fault(answer: Result<(), ChestFault>) -> u8 {
-        match answer {
-            Ok(()) => 0,
-            Err(fault) => fault.number(),
-        }
-    }
-
-    // The value with 0, or 0 with the number of the fault.
-    fn found(answer: Result<usize, ChestFault>) -> (usize, u8) {
-        match answer {
-            Ok(value) => (value, 0),
-            Err(fault) => (0, fault.number()),
-        }
+    // The answer with the number of its fault.
+    fn numbered<T>(answer: Result<T, ChestFault>) -> Result<T, u8> {
+        answer.map_err(ChestFault::number)
     }
 
     fn rows<C: Chest>(rt: &impl Abort, chest: &mut C) {
         let reaches = [
-            (0, 0, 0),
-            (1, 128, 0),
-            (2, 128, 0),
-            (3, 128, 0),
-            (4, 61, 0),
-            (14, 1, 0),
-            (15, 128, 0),
-            (16, 0, 11),
+            (0, Ok(0)),
+            (1, Ok(128)),
+            (2, Ok(128)),
+            (3, Ok(128)),
+            (4, Ok(61)),
+            (14, Ok(1)),
+            (15, Ok(128)),
+            (16, Err(11)),
         ];
-        for (row, reach, number) in reaches {
-            assert_eq!(rt; found(chest.reach(row)), (reach, number));
+        for (row, reach) in reaches {
+            assert_eq!(rt; numbered(chest.reach(row)), reach);
         }
         let places = [
-            (0, 0, 12),
-            (1, 127, 0),
-            (1, 128, 12),
-            (4, 60, 0),
-            (4, 61, 12),
-            (14, 0, 0),
-            (14, 1, 12),
-            (15, 127, 0),
-            (15, 128, 12),
-            (16, 0, 11),
-            (16, 200, 11),
+            (0, 0, Err(12)),
+            (1, 127, Ok(())),
+            (1, 128, Err(12)),
+            (4, 60, Ok(())),
+            (4, 61, Err(12)),
+            (14, 0, Ok(())),
+            (14, 1, Err(12)),
+            (15, 127, Ok(())),
+            (15, 128, Err(12)),
+            (16, 0, Err(11)),
+            (16, 200, Err(11)),
         ];
-        for (row, place, number) in places {
-            assert_eq!(rt; fault(chest.set(row, place, true)), number);
+        for (row, place, answer) in places {
+            assert_eq!(rt; numbered(chest.set(row, place, true)), answer);
         }
     }
 
     fn knobs<C: Chest>(rt: &impl Abort, chest: &mut C) {
         let turns = [
-            (0, 15, 0),
-            (63, 1, 0),
-            (63, 16, 14),
-            (64, 15, 13),
-            (64, 16, 13),
+            (0, 15, Ok(())),
+            (63, 1, Ok(())),
+            (63, 16, Err(14)),
+            (64, 15, Err(13)),
+            (64, 16, Err(13)),
         ];
-        for (knob, position, number) in turns {
-            assert_eq!(rt; fault(chest.turn(knob, position)), number);
+        for (knob, position, answer) in turns {
+            assert_eq!(rt; numbered(chest.turn(knob, position)), answer);
         }
-        let positions = [(0, 15, 0), (1, 0, 0), (63, 1, 0), (64, 0, 13)];
-        for (knob, position, number) in positions {
-            assert_eq!(rt; found(chest.position(knob)), (position, number));
+        let positions = [(0, Ok(15)), (1, Ok(0)), (63, Ok(1)), (64, Err(13))];
+        for (knob, position) in positions {
+            assert_eq!(rt; numbered(chest.position(knob)), position);
         }
     }
 
@@ -116,19 +105,19 @@ mod tests {
 
     // A fault says what was asked for.
     #[test]
-    fn faults_have_their_values(rt: HostRuntime) -> Result<(), Fail> {
+    fn faults_have_their_values(rt: HostRuntime) {
         let mut chest = MagnetChest::new(reaches());
-        match chest.set(4, 61, true) {
-            Err(ChestFault::Place { row, place }) => assert_eq!(rt; (row, place), (4, 61)),
-            _ => return Err(Fail::new("no fault of the place")),
-        }
-        match chest.turn(63, 16) {
-            Err(ChestFault::Position { knob, position }) => {
-                assert_eq!(rt; (knob, position), (63, 16));
-                Ok(())
-            },
-            _ => Err(Fail::new("no fault of the position")),
-        }
+        assert_eq!(rt;
+            chest.set(4, 61, true),
+            Err(ChestFault::Place { row: 4, place: 61 })
+        );
+        assert_eq!(rt;
+            chest.turn(63, 16),
+            Err(ChestFault::Position {
+                knob: 63,
+                position: 16
+            })
+        );
     }
 
     // The example of docs/RULES.md, and the last bit of the last byte.
@@ -138,12 +127,12 @@ mod tests {
         let mut expected = [0; 256];
         let mut buffer = [OLD; 256];
         for (row, place) in [(0, 0), (0, 9), (2, 10), (15, 127)] {
-            assert_eq!(rt; fault(chest.set(row, place, true)), 0);
+            assert_eq!(rt; chest.set(row, place, true), Ok(()));
         }
-        assert!(rt; chest.write(&mut buffer).is_ok());
+        assert_eq!(rt; chest.write(&mut buffer), Ok(()));
         assert_eq!(rt; buffer, expected);
         assert_eq!(rt; chest.strobe(), 4);
-        assert!(rt; chest.write(&mut buffer).is_ok());
+        assert_eq!(rt; chest.write(&mut buffer), Ok(()));
         expected[0] = 0x01;
         expected[1] = 0x02;
         expected[33] = 0x04;
@@ -152,36 +141,30 @@ mod tests {
     }
 
     // A buffer of another length keeps its content.
-    fn refused(rt: &impl Abort, chest: &MagnetChest, buffer: &mut [u8]) -> Result<(), Fail> {
-        match chest.write(buffer) {
-            Err(fault) => assert_eq!(rt; fault.number(), 21),
-            Ok(()) => return Err(Fail::new("written")),
-        }
-        for byte in buffer {
-            assert_eq!(rt; *byte, OLD);
-        }
-        Ok(())
+    fn refused(rt: &impl Abort, chest: &MagnetChest, buffer: &mut [u8]) {
+        assert_eq!(rt; chest.write(buffer).map_err(BufferFault::number), Err(21));
+        assert!(rt; buffer.iter().all(|byte| *byte == OLD));
     }
 
     #[test]
-    fn magnet_buffer_of_another_length(rt: HostRuntime) -> Result<(), Fail> {
+    fn magnet_buffer_of_another_length(rt: HostRuntime) {
         let mut chest = MagnetChest::new([128; 16]);
-        assert_eq!(rt; fault(chest.set(0, 0, true)), 0);
+        assert_eq!(rt; chest.set(0, 0, true), Ok(()));
         assert_eq!(rt; chest.strobe(), 1);
-        refused(&rt, &chest, &mut [OLD; 0])?;
-        refused(&rt, &chest, &mut [OLD; 255])?;
-        refused(&rt, &chest, &mut [OLD; 257])
+        refused(&rt, &chest, &mut [OLD; 0]);
+        refused(&rt, &chest, &mut [OLD; 255]);
+        refused(&rt, &chest, &mut [OLD; 257]);
     }
 
     // A chest with three pipes pending, in three rows: two start, and one stops after it was drained.
     fn three_pending(rt: &impl Abort) -> MidiChest {
         let mut chest = MidiChest::new([128; 16]);
-        assert_eq!(rt; fault(chest.set(3, 5, true)), 0);
+        assert_eq!(rt; chest.set(3, 5, true), Ok(()));
         assert_eq!(rt; chest.strobe(), 1);
         assert_eq!(rt; chest.drain(&mut [OLD; 3]), 3);
-        assert_eq!(rt; fault(chest.set(3, 5, false)), 0);
-        assert_eq!(rt; fault(chest.set(15, 127, true)), 0);
-        assert_eq!(rt; fault(chest.set(0, 12, true)), 0);
+        assert_eq!(rt; chest.set(3, 5, false), Ok(()));
+        assert_eq!(rt; chest.set(15, 127, true), Ok(()));
+        assert_eq!(rt; chest.set(0, 12, true), Ok(()));
         assert_eq!(rt; chest.strobe(), 3);
         chest
     }
@@ -228,10 +211,10 @@ mod tests {
     #[test]
     fn drain_of_what_stays(rt: HostRuntime) {
         let mut chest = MidiChest::new([128; 16]);
-        assert_eq!(rt; fault(chest.set(7, 60, true)), 0);
+        assert_eq!(rt; chest.set(7, 60, true), Ok(()));
         drains(&rt, &mut chest, &mut [OLD; 3], 0, &[OLD; 3]);
         assert_eq!(rt; chest.strobe(), 1);
-        assert_eq!(rt; fault(chest.set(7, 60, false)), 0);
+        assert_eq!(rt; chest.set(7, 60, false), Ok(()));
         assert_eq!(rt; chest.strobe(), 1);
         drains(&rt, &mut chest, &mut [OLD; 3], 0, &[OLD; 3]);
     }
@@ -242,7 +225,7 @@ mod tests {
         let mut chest = MidiChest::new([128; 16]);
         for row in 0..16 {
             for place in 0..128 {
-                assert_eq!(rt; fault(chest.set(row, place, true)), 0);
+                assert_eq!(rt; chest.set(row, place, true), Ok(()));
             }
         }
         assert_eq!(rt; chest.strobe(), 2048);

@@ -13,10 +13,11 @@ mod tests {
         let whole = messages(heap, line)?;
         assert_eq!(rt; whole.as_slice(), expected);
         for cut in 0..line.len() {
+            let (front, rest) = line.split_at(cut);
             let mut reader = Reader::new();
             let mut out = Vec::new(heap);
-            reader.feed_all(&line[0..cut], &mut out)?;
-            reader.feed_all(&line[cut..], &mut out)?;
+            reader.feed_all(front, &mut out)?;
+            reader.feed_all(rest, &mut out)?;
             assert_eq!(rt; out.as_slice(), expected);
         }
         Ok(())
@@ -176,14 +177,19 @@ mod tests {
     // A message is handed out with its last byte.
     #[test]
     fn neither_early_nor_late(rt: HostRuntime) {
+        let bytes = [
+            (0x90, None),
+            (0x24, None),
+            (0xf8, None),
+            (0x40, Some(on(0x24, 0x40))),
+            (0x26, None),
+            (0xc2, None),
+            (0x05, Some(program(5))),
+            (0x06, Some(program(6))),
+        ];
         let mut reader = Reader::new();
-        assert_eq!(rt; reader.feed(0x90), None);
-        assert_eq!(rt; reader.feed(0x24), None);
-        assert_eq!(rt; reader.feed(0xf8), None);
-        assert_eq!(rt; reader.feed(0x40), Some(on(0x24, 0x40)));
-        assert_eq!(rt; reader.feed(0x26), None);
-        assert_eq!(rt; reader.feed(0xc2), None);
-        assert_eq!(rt; reader.feed(0x05), Some(program(5)));
-        assert_eq!(rt; reader.feed(0x06), Some(program(6)));
+        for (byte, message) in bytes {
+            assert_eq!(rt; reader.feed(byte), message);
+        }
     }
 }

@@ -6,8 +6,10 @@ ghost use Rattle.bottom.specs.Foot.{foot_meaning, new_bottom};
 
 use crate::bits::Bits;
 use crate::foot::Foot;
+use crate::table::PipeTable;
 use chest::chest::{KNOBS, PLACES, POSITIONS, ROWS};
 use chest::fault::ChestFault;
+use chest::place::Place;
 
 impl Foot {
     pub(crate) fn new(reaches: [u8; ROWS]) -> Foot
@@ -18,8 +20,8 @@ impl Foot {
             positions: [0; KNOBS],
             strobes: 0,
             bits: Bits {
-                set: [0u8; 256],
-                speaking: [0u8; 256],
+                set: PipeTable::none(),
+                speaking: PipeTable::none(),
             },
         }
     }
@@ -51,7 +53,7 @@ impl Foot {
         if place >= reach {
             return Err(ChestFault::Place { row, place });
         }
-        self.bits.put(row, place, on);
+        self.bits.put(Place { row, place }, on);
         Ok(())
     }
 
@@ -83,9 +85,5 @@ impl Foot {
 fn capped(reaches: [u8; ROWS]) -> [u8; ROWS]
     ensures { (k : ℕ) → slice_index result k ≡ min (slice_index reaches k) 128 }
 {
-    let mut capped = reaches;
-    for i in 0..ROWS {
-        capped[i] = capped[i].min(PLACES as u8);
-    }
-    capped
+    reaches.map(|reach| reach.min(PLACES as u8))
 }

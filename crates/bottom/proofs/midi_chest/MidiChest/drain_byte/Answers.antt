@@ -1,32 +1,22 @@
-use Rattle.std.proofs.Common.{◌+◌, ◌*◌, refl, ap, ◌∙◌, arith, rules}
+use Rattle.std.proofs.Common.{◌+◌, ◌*◌, ap, ◌∙◌, arith}
 use Rattle.bottom.specs.Layout.{shown}
-use Rattle.bottom.proofs.Draining.{up_to_at, goes_then, byte_skipped}
+use Rattle.bottom.proofs.Draining.{up_to_at, none_more, stretch_same, goes_then}
 use Rattle.bottom.proofs.midi_chest.MidiChest.drain_byte.Goals as goal
 
-pub returns-then-self-at : goal.returns-then-self-at
-returns-then-self-at c =
-    record {
-      bound = search rules;
-      after = λ start buffer u. byte_skipped _ _ c.args.at start buffer _ _ c.if-self-at.true u;
-      same = refl;
-    }
-
-pub loop-bit-init : goal.loop-bit-init
-loop-bit-init c =
-    (omega arith, refl, λ start buffer u. up_to_at (8 * c.args.at) (8 * c.args.at + 0) _ start buffer _ _ _ (omega arith) u)
+pub returns-then-is_still-clause-after : goal.returns-then-is_still-clause-after
+returns-then-is_still-clause-after c = λ start buffer front u.
+    none_more _ _ start buffer _ front _ (stretch_same _ start buffer _ front _ 8 (8 * c.args.byte) (c.is_still.ensures c.if-is_still.true) u)
 
 pub loop-bit-preserved : goal.loop-bit-preserved
 loop-bit-preserved c =
-    let kept = c.loop-bit.invariant.1 in (
-      omega (arith, c.drain_place-written.ensures.bound),
-      c.drain_place-written.ensures.same ∙ kept,
-      goes_then _ _ _ _ _ _ _ _ _ _ _ _ _ _ _ _ c.loop-bit.invariant.2 c.drain_place-written.ensures.after (ap (λ f. shown f.bits.speaking) kept) (omega arith) (omega arith),
-    )
-
-pub returns : goal.returns
-returns c =
+    let so_far = c.loop-bit.invariant in
+    let then = c.drain_place-written.ensures in
     record {
-      bound = c.loop-bit.invariant.0;
-      after = λ start buffer u. up_to_at (8 * c.args.at + c.loop-bit.bit) (8 * c.args.at + 8) _ start buffer _ _ _ (omega arith) (c.loop-bit.invariant.2 start buffer u);
-      same = c.loop-bit.invariant.1;
+      bound = omega (arith, then.bound);
+      same = then.same ∙ so_far.same;
+      after = goes_then _ _ _ so_far.bound _ _ _ _ _ _ _ _ _ _ _ _ so_far.after then.after (ap (λ f. shown f.bits.speaking.bytes) so_far.same) (omega (arith, c.place_of-at.ensures)) (omega (arith, c.place_of-at.ensures));
     }
+
+pub returns-clause-after : goal.returns-clause-after
+returns-clause-after c = λ start buffer front u.
+    up_to_at (8 * c.args.byte + c.loop-bit.bit) (8 * c.args.byte + 8) _ start buffer _ _ _ (omega arith) (c.loop-bit.invariant.after start buffer front u)

@@ -1,12 +1,6 @@
-use Rattle.std.proofs.Common.{refl, rules}
+use Rattle.std.proofs.Common.{refl}
 use Rattle.bottom.specs.Run.{strobes}
 use Rattle.bottom.proofs.midi_chest.MidiChestChest.strobe.Goals as goal
 
-pub returns : goal.returns
-returns c =
-    record {
-      answer = search rules;
-      after = search rules;
-      sent = refl;
-      run = λ line so_far. strobes so_far c.strobe.ensures.after refl;
-    }
+pub returns-clause-run : goal.returns-clause-run
+returns-clause-run c = λ line so_far. strobes so_far c.strobe.ensures.after refl
