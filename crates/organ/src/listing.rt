@@ -6,7 +6,7 @@ use itoa::Buffer;
 use std::alloc::AllocError;
 
 // The most bytes that a line can have: a word, two numbers of 20 digits, brackets, spaces and its end.
-pub(crate) const LONGEST_LINE: usize = 64;
+pub const LONGEST_LINE: usize = 64;
 
 #[derive(Clone, Copy, Debug, PartialEq)]
 pub enum Line {

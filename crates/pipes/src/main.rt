@@ -3,7 +3,7 @@
 
 use book::BookReader;
 use organ::listing::Line;
-use recital::{MagnetRecital, fault_line, refusal_line};
+use recital::MagnetRecital;
 use std::io::{ErrorKind, Read, Write};
 use std::{fs, io};
 
@@ -14,13 +14,8 @@ const PORTION: usize = 4096;
 fn book_text(rt: &HostRuntime) -> io::Result<Vec<u8>> {
     match fs::read(rt, "organ.book") {
         Ok(text) => Ok(text),
-        Err(e) => {
-            if e.kind() == ErrorKind::NotFound {
-                Ok(Vec::new(rt.alloc()))
-            } else {
-                Err(e)
-            }
-        }
+        Err(e) if e.kind() == ErrorKind::NotFound => Ok(Vec::new(rt.alloc())),
+        Err(e) => Err(e),
     }
 }
 
@@ -59,9 +54,9 @@ fn run(rt: &HostRuntime) -> anyhow::Result<()> {
     match reader.read(text.as_slice()) {
         Ok(book) => match MagnetRecital::open(&book) {
             Ok(mut recital) => play(rt, &mut recital, &mut listing),
-            Err(refusal) => tell(rt, refusal_line(refusal), &mut listing),
+            Err(refusal) => tell(rt, Line::from(refusal), &mut listing),
         },
-        Err(fault) => tell(rt, fault_line(fault), &mut listing),
+        Err(fault) => tell(rt, Line::from(fault), &mut listing),
     }
 }
 

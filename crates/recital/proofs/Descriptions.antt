@@ -6,7 +6,7 @@ use Rattle.book.specs.declared.record.Book.{Book}
 use Rattle.book.specs.Asking.{keys_in, pipes_in, knob_in, scope_in}
 use Rattle.book.specs.Entries.{Entry, Holds, said, keys_of, pipes_of, knob_of, scope_of}
 use Rattle.book.specs.Limits.{rows, knobs, pistons}
-use Rattle.book.specs.Tables.{row_at, knob_at, scope_at}
+use Rattle.book.specs.Tables.{place_at, place_at, place_at}
 use Rattle.organ.specs.Assembly.{Hung, hang_all, stack_meaning}
 use Rattle.organ.specs.Opening.{book_setup, new_ranks}
 use Rattle.recital.specs.Described.{keys_said, pipes_said, knob_said, scope_said, setup_said, hung_said, stack_said, book_hung, book_stack}
@@ -22,17 +22,17 @@ guarded r n x y d e = by (ltb r n) refl where
 module _ (b : Book) (es : List Entry) (h : Holds b es) where
   keys-are : (r : ℕ) → keys_in b r ≡ keys_said es r
   keys-are r =
-      guarded r rows (unwrap_or (row_at b.divisions r) 0) (unwrap_or (said (keys_of r) es) 0) 0 (λ q. ap (λ o. unwrap_or o 0) (h.divisions r q))
+      guarded r rows (unwrap_or (place_at b.divisions r) 0) (unwrap_or (said (keys_of r) es) 0) 0 (λ q. ap (λ o. unwrap_or o 0) (h.divisions r q))
 
   pipes_are : (r : ℕ) → pipes_in b r ≡ pipes_said es r
   pipes_are r =
-      guarded r rows (unwrap_or (row_at b.ranks r) 0) (unwrap_or (said (pipes_of r) es) 0) 0 (λ q. ap (λ o. unwrap_or o 0) (h.ranks r q))
+      guarded r rows (unwrap_or (place_at b.ranks r) 0) (unwrap_or (said (pipes_of r) es) 0) 0 (λ q. ap (λ o. unwrap_or o 0) (h.ranks r q))
 
   knob_is : (k : ℕ) → knob_in b k ≡ knob_said es k
-  knob_is k = guarded k knobs (knob_at b.knobs k) (said (knob_of k) es) None (h.knobs k)
+  knob_is k = guarded k knobs (place_at b.knobs k) (said (knob_of k) es) None (h.knobs k)
 
   scope_is : (q : ℕ) → scope_in b q ≡ scope_said es q
-  scope_is q = guarded q pistons (scope_at b.pistons q) (said (scope_of q) es) None (h.pistons q)
+  scope_is q = guarded q pistons (place_at b.pistons q) (said (scope_of q) es) None (h.pistons q)
 
   pub setup-is : book_setup b ≡ setup_said es
   setup-is = λ i.
@@ -40,7 +40,7 @@ module _ (b : Book) (es : List Entry) (h : Holds b es) where
         reach = λ r. keys-are r i;
         steps = λ k. option_map (λ q. q.steps) (knob_is k i);
         home = λ k. unwrap_or (option_map (λ q. q.home) (knob_is k i)) 0;
-        scope = λ q. option_map (λ s. record { lowest = s.lowest; highest = s.highest }) (scope_is q i);
+        scope = λ q. scope_is q i;
       }
 
   pub hung-is : book_hung b ≡ hung_said es

@@ -12,7 +12,7 @@ use Rattle.organ.specs.Assembly.{Hung, stack_meaning}
 use Rattle.organ.specs.Listing.{line_bytes}
 use Rattle.organ.specs.Opening.{Opens, book_setup}
 use Rattle.recital.specs.Described.{setup_said, hung_said, stack_said, book_hung, book_stack}
-use Rattle.recital.specs.Faults.{fault_line, refusal_line}
+use Rattle.organ.specs.Refused.{fault_line, refusal_line}
 use Rattle.recital.specs.Performing.{Gives, IsBook, Performs, faulty, unwired, played, ListingLaw}
 use Rattle.recital.specs.Listings.{book_listing, listing_of}
 use Rattle.recital.proofs.Descriptions.{gives_said}

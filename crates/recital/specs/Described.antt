@@ -3,8 +3,8 @@ use Rattle.std.specs.Prelude.{ℕ, cond, List, None, vec_items, Option, Result, 
 use Rattle.std.specs.Option.{option_map, unwrap_or}
 use Rattle.chest.specs.Meaning.{Meaning}
 use Rattle.book.specs.declared.record.Book.{Book}
-use Rattle.book.specs.declared.tables.Knob.{Knob}
-use Rattle.book.specs.declared.tables.Scope.{Scope as Written}
+use Rattle.fittings.specs.declared.Knob.{Knob}
+use Rattle.fittings.specs.declared.Scope.{Scope}
 use Rattle.book.specs.Asking.{keys_in, pipes_in}
 use Rattle.book.specs.Entries.{Entry, said, keys_of, pipes_of, knob_of, scope_of, wires_of}
 use Rattle.book.specs.Limits.{rows, knobs, pistons}
@@ -24,7 +24,7 @@ pipes_said es r = cond (nat_lt r rows) (unwrap_or (said (pipes_of r) es) 0) 0
 abbrev pub knob_said : List Entry → ℕ → Option Knob
 knob_said es k = cond (nat_lt k knobs) (said (knob_of k) es) None
 
-abbrev pub scope_said : List Entry → ℕ → Option Written
+abbrev pub scope_said : List Entry → ℕ → Option Scope
 scope_said es q = cond (nat_lt q pistons) (said (scope_of q) es) None
 
 -- what the model console is given
@@ -34,7 +34,7 @@ setup_said es =
       reach = keys_said es;
       steps = λ k. option_map (λ q. q.steps) (knob_said es k);
       home = λ k. unwrap_or (option_map (λ q. q.home) (knob_said es k)) 0;
-      scope = λ q. option_map (λ s. record { lowest = s.lowest; highest = s.highest }) (scope_said es q);
+      scope = scope_said es;
     }
 
 -- the wires on their boards, or the first that its board refuses

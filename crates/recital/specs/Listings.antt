@@ -18,7 +18,7 @@ use Rattle.organ.specs.Actions.{action_of}
 use Rattle.organ.specs.Assembly.{Hung}
 use Rattle.organ.specs.Listing.{line_bytes}
 use Rattle.organ.specs.Responses.{line_of}
-use Rattle.recital.specs.Faults.{fault_line, refusal_line}
+use Rattle.organ.specs.Refused.{fault_line, refusal_line}
 use Rattle.recital.specs.Described.{setup_said, hung_said, stack_said}
 
 module _ (s : Setup) where

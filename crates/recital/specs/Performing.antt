@@ -14,7 +14,7 @@ use Rattle.organ.specs.declared.assembly.Refusal.{Refusal}
 use Rattle.organ.specs.Assembly.{Hung}
 use Rattle.organ.specs.Lines.{Outcome, AreOf, call_in, answer_in, line_in}
 use Rattle.organ.specs.Listing.{line_bytes}
-use Rattle.recital.specs.Faults.{fault_line, refusal_line}
+use Rattle.organ.specs.Refused.{fault_line, refusal_line}
 use Rattle.recital.specs.Described.{setup_said, hung_said, stack_said}
 use Rattle.recital.specs.Listings.{listing_of}
 

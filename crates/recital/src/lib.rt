@@ -1,12 +1,10 @@
 // The parts put together: an organ that is opened from a book and played from a line, and one call for both.
 #![tactic(auto)]
 
-mod faults;
 mod laws;
 mod performing;
 mod playing;
 
-pub use faults::{fault_line, refusal_line};
 pub use laws::listing_law;
 pub use performing::{perform, perform_with};
 pub use playing::{MagnetRecital, Recital};

@@ -5,11 +5,9 @@ ghost use Rattle.book.specs.Reading.{Answers, read_of};
 ghost use Rattle.recital.specs.Listings.{listing_of};
 ghost use Rattle.recital.specs.Performing.{Performs};
 
-use crate::faults::{fault_line, refusal_line};
 use crate::playing::Recital;
-use board::board::RelayBoard;
 use book::{Book, BookFault, BookReader};
-use bottom::magnet::MagnetChest;
+use organ::listing::Line;
 use std::alloc::{AllocError, Global};
 
 // A book that is accepted: its organ is played, or the line of the first wire that its board refuses is added.
@@ -21,7 +19,7 @@ fn give(book: &Book, line: &[u8], listing: &mut Vec<u8>) -> Result<(), AllocErro
 {
     match Recital::open(book) {
         Ok(mut recital) => recital.play(line, listing),
-        Err(refusal) => refusal_line(refusal).add_to(listing),
+        Err(refusal) => Line::from(refusal).add_to(listing),
     }
 }
 
@@ -32,7 +30,7 @@ fn tell(fault: BookFault, listing: &mut Vec<u8>) -> Result<(), AllocError>
     ensures same { OnErr result (listing.new.items ≡ listing.old.items) }
     ensures succeeds { vec_len listing.old + 64 ≤ vec_capacity listing.old → is_ok result ≡ true }
 {
-    fault_line(fault).add_to(listing)
+    Line::from(fault).add_to(listing)
 }
 
 // Reads a book's text, plays its organ from the bytes of a line, and adds to the listing what each call came to;

@@ -7,20 +7,17 @@ ghost use Rattle.console.specs.Sending.{Sends, StillTracks};
 ghost use Rattle.midi.specs.Steps.{HasRead};
 ghost use Rattle.recital.specs.Playing.{Hears, GoesOn, CaughtUp, ListsOn, Begins};
 
-use board::board::RelayBoard;
 use book::Book;
 use bottom::magnet::MagnetChest;
 use chest::chest::Chest;
 use chest::sender::Sender;
 use console::console::Console;
 use midi::Reader;
-use organ::assembly::Refusal;
+use organ::assembly::{Refusal, Stack};
+use organ::listing::LONGEST_LINE;
 use organ::opening::open_magnets;
 use organ::response::respond;
 use std::alloc::AllocError;
-
-// The most bytes that a line of the listing can have.
-const LONGEST_LINE: usize = 64;
 
 #[derive(Drop)]
 pub struct Recital<C: Chest> {
@@ -29,7 +26,7 @@ pub struct Recital<C: Chest> {
 }
 
 // A recital on coupler board and stop board over a magnet chest.
-pub type MagnetRecital = Recital<RelayBoard<RelayBoard<MagnetChest>>>;
+pub type MagnetRecital = Recital<Stack<MagnetChest>>;
 
 // Makes room for this many lines.
 fn make_room(listing: &mut Vec<u8>, count: usize) -> Result<(), AllocError>
@@ -98,15 +95,13 @@ impl<C: Sender> Recital<C> {
     }
 }
 
-impl Recital<RelayBoard<RelayBoard<MagnetChest>>> {
+impl Recital<Stack<MagnetChest>> {
     // A recital on the organ of a book over a magnet chest with its ranks, or the first wire that its board refuses.
-    pub fn open(book: &Book) -> Result<Recital<RelayBoard<RelayBoard<MagnetChest>>>, Refusal>
+    pub fn open(book: &Book) -> Result<MagnetRecital, Refusal>
         ensures cases { Begins book.now result }
         ensures law { IfOk result (λ q. (text : List ℕ) → Answers (Ok book.now) (read_of text) → CaughtUp (meaning_of (meaning_of magnet_meaning)) (Settled (meaning_of magnet_meaning) (Settled magnet_meaning MagnetSettled)) q text []) }
     {
-        match open_magnets(book) {
-            Ok(console) => Ok(Recital::new(console)),
-            Err(refusal) => Err(refusal),
-        }
+        let console = open_magnets(book)?;
+        Ok(Recital::new(console))
     }
 }

@@ -7,7 +7,7 @@ use Rattle.bottom.specs.Magnet.{magnet_meaning, MagnetSettled}
 use Rattle.organ.specs.Listing.{line_bytes}
 use Rattle.organ.specs.Opening.{book_setup, new_ranks}
 use Rattle.recital.specs.Described.{book_hung, book_stack}
-use Rattle.recital.specs.Faults.{refusal_line}
+use Rattle.organ.specs.Refused.{refusal_line}
 use Rattle.recital.specs.Performing.{Gives, Performs}
 use Rattle.recital.proofs.Judgements.{added, not_added, refused_weaker, refuses, accepted, listed}
 use Rattle.recital.proofs.Services.{serves}
@@ -37,7 +37,7 @@ returns-in-Err c =
     let new = vec_items c.add_to.new.listing in
     let r = c.add_to.result in
     let line = line_bytes (refusal_line c.in-Err.refusal) in
-    let items : new ≡ cond (is_ok r) (old ++ line) old = c.add_to.ensures.items ∙ ap (λ x. cond (is_ok r) (old ++ line_bytes x) old) c.refusal_line.ensures.value in
+    let items : new ≡ cond (is_ok r) (old ++ line) old = c.add_to.ensures.items ∙ ap (λ x. cond (is_ok r) (old ++ line_bytes x) old) c.from.ensures in
     let refusal = refuses magnet_meaning MagnetSettled b (new_ranks (pipes_in b)) (book_hung b) c.in-Err.refusal bytes c.in-Err.ensures.cases in
     let performs : (text : List ℕ) → Judged (Ok b) text → IfOk r (λ x. (given : List ℕ) × (new ≡ old ++ given) × Performs text bytes given) = λ text judged. added r old new line (Performs text bytes) (accepted text bytes line b judged refusal) items in
     record {

@@ -1,0 +1,15 @@
+-- The organ is opened, and its reader is new.
+use Rattle.std.proofs.Common.{Ok, sym, subst}
+use Rattle.book.specs.Asking.{pipes_in}
+use Rattle.bottom.specs.Magnet.{magnet_meaning, MagnetSettled}
+use Rattle.organ.specs.Opening.{Opens, new_ranks}
+use Rattle.recital.specs.Described.{book_hung}
+use Rattle.recital.proofs.Portions.{begun}
+use Rattle.recital.proofs.playing.Recital+Stack+MagnetChest.open.Goals as goal
+
+pub returns-clause-law : goal.returns-clause-law
+returns-clause-law c =
+    let b = c.args.book.now in
+    let new = c.new.ensures.value in
+    let opens = subst (λ x. Opens magnet_meaning MagnetSettled b (new_ranks (pipes_in b)) (book_hung b) (Ok x)) (sym new.0) c.in_ok-console.ensures in
+    λ text answers. begun magnet_meaning MagnetSettled b c.new.result text new.1 answers opens
