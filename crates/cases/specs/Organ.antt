@@ -4,12 +4,12 @@ use Rattle.chest.specs.Meaning.{Meaning}
 use Rattle.book.specs.declared.forms.Board.{Board}
 use Rattle.book.specs.declared.forms.Board.TheVariants.{Coupler, Stop}
 use Rattle.book.specs.declared.record.BookWire.{BookWire}
-use Rattle.board.specs.declared.wire.Wire.{Wire}
+use Rattle.fittings.specs.declared.Wire.{Wire}
 use Rattle.board.specs.declared.wire.Lead.{Lead}
 use Rattle.board.specs.Wires.{Reaches}
 use Rattle.board.specs.Fitting.{lead_of}
 use Rattle.console.specs.Model.{Setup}
-use Rattle.organ.specs.Assembly.{Hung, offer_of, stack_meaning}
+use Rattle.organ.specs.Assembly.{Hung, stack_meaning}
 use Rattle.organ.specs.Opening.{new_ranks}
 
 -- the keys of each division, and the pipes of each rank
@@ -26,7 +26,7 @@ shifted_by shift = record { from = 0; lowest = 0; highest = 60; to = 0; shift = 
 -- a wire as a book writes it: from all keys of division 0 to row 0, while the knob stands at position 1
 abbrev pub written : ℕ → Board → ℤ → ℕ → BookWire
 written line board shift knob =
-    record { line = line; wire = record { board = board; from = 0; lowest = 0; highest = 60; to = 0; shift = shift; knob = knob; position = 1 } }
+    record { line = line; board = board; wire = record { from = 0; lowest = 0; highest = 60; to = 0; shift = shift; knob = knob; position = 1 } }
 
 -- each key leads to itself, always
 abbrev pub unison : BookWire
@@ -47,7 +47,7 @@ wires = unison ∷ diapason ∷ octave ∷ flute ∷ []
 
 -- the wire as its board keeps it
 abbrev pub kept : BookWire → Lead
-kept w = lead_of (offer_of w.wire)
+kept w = lead_of w.wire
 
 -- the wires on their boards
 abbrev pub hung : Hung

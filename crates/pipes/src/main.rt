@@ -13,9 +13,8 @@ const PORTION: usize = 4096;
 // The bytes of the file: none where it is missing.
 fn book_text(rt: &HostRuntime) -> io::Result<Vec<u8>> {
     match fs::read(rt, "organ.book") {
-        Ok(text) => Ok(text),
         Err(e) if e.kind() == ErrorKind::NotFound => Ok(Vec::new(rt.alloc())),
-        Err(e) => Err(e),
+        text => text,
     }
 }
 
