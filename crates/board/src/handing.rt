@@ -1,4 +1,5 @@
-// Handing down: walks over the wires that put the places below as the image has them.
+// Handing down: walks over the wires that put the places below as the image has them. They go where those that count
+// went, but not with them: a place is put by the number of its ways once all are counted.
 ghost use Rattle.board.specs.Layout.{layout};
 ghost use Rattle.board.specs.Handing.{Handed, from_key, from_wire, from_knob};
 

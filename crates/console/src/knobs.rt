@@ -51,7 +51,7 @@ impl KnobTable {
         ensures value { result ≡ steps_of self.now knob }
         ensures bound { IfSome result (λ n. (knob < 64) × (n ≤ 16)) }
     {
-        self.knob(knob).map(|defined| defined.steps as usize)
+        self.knob(knob).map(|defined| usize::from(defined.steps))
     }
 
     // The home of a knob, 0 where it is undefined.
@@ -59,6 +59,7 @@ impl KnobTable {
         ensures value { result ≡ home_of self.now knob }
         ensures bound { result < 16 }
     {
-        self.knob(knob).map_or(0, |defined| defined.home as usize)
+        self.knob(knob)
+            .map_or(0, |defined| usize::from(defined.home))
     }
 }

@@ -34,7 +34,7 @@ impl PistonTable {
     pub fn with_piston(self, piston: usize, lowest: u8, highest: u8) -> Option<PistonTable>
         ensures { MatchOption result (in_range piston lowest highest ≡ false) (λ t. (in_range piston lowest highest ≡ true) × (scope_of t piston ≡ Some (record { lowest = lowest; highest = highest })) × (frame_of t piston ≡ None) × ((q : ℕ) → (q ≢ piston) → (scope_of t q ≡ scope_of self q) × (frame_of t q ≡ frame_of self q))) }
     {
-        if piston >= PISTONS || lowest > highest || highest as usize >= KNOBS {
+        if piston >= PISTONS || lowest > highest || usize::from(highest) >= KNOBS {
             return None;
         }
         let PistonTable { mut pistons } = self;

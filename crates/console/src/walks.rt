@@ -32,7 +32,7 @@ pub(crate) fn home_knobs<C: Chest>(chest: &mut C, knobs: &KnobTable)
     ensures { Becomes C.meaning C.settled chest.old chest.new (knobs_turned (C.meaning chest.old) (homes_of knobs.now) 64) }
 {
     turn_knobs(chest, |knob| {
-        knobs.knob(knob).map(|defined| defined.home as usize)
+        knobs.knob(knob).map(|defined| usize::from(defined.home))
     });
 }
 
@@ -52,9 +52,9 @@ pub(crate) fn recall_knobs<C: Chest>(
 fn recalled(knobs: &KnobTable, scope: Scope, frame: &[u8; KNOBS], knob: usize) -> Option<usize>
     ensures { result ≡ frame_in knobs.now scope frame.now knob }
 {
-    let scope = scope.lowest as usize..=scope.highest as usize;
+    let scope = usize::from(scope.lowest)..=usize::from(scope.highest);
     if knobs.knob(knob).is_some() && scope.contains(&knob) {
-        frame.get(knob).map(|position| *position as usize)
+        frame.get(knob).map(|position| usize::from(*position))
     } else {
         None
     }

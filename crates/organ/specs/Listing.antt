@@ -1,5 +1,5 @@
 -- The bytes of a listing's lines. Assumes nothing.
-use Rattle.std.specs.Prelude.{ℕ, List, ◌++◌, codes, decimal}
+use Rattle.std.specs.Prelude.{ℕ, ◌+◌, ◌*◌, ◌≤◌, List, ◌++◌, codes, decimal, Vec, vec_len, vec_capacity}
 use Rattle.organ.specs.declared.listing.Line.{Line}
 use Rattle.organ.specs.declared.listing.Line.TheVariants.{Done, Fault, BookFault}
 
@@ -11,3 +11,11 @@ abbrev pub line_bytes : Line → List ℕ
 line_bytes (Done n) = codes "(done " ++ (decimal n ++ line_end)
 line_bytes (Fault n) = codes "(fault " ++ (decimal n ++ line_end)
 line_bytes (BookFault n l) = codes "(fault " ++ (decimal n ++ (codes " " ++ (decimal l ++ line_end)))
+
+-- room for so many lines, of which none is longer than 64 bytes
+abbrev pub HasRoom : {X Z : Type 0} → Vec X Z → ℕ → Type 0
+HasRoom listing lines = vec_len listing + 64 * lines ≤ vec_capacity listing
+
+-- longer by one line at most, and with no less memory
+abbrev pub OneLineMore : {X Z : Type 0} → Vec X Z → Vec X Z → Type 0
+OneLineMore before after = (vec_len after ≤ vec_len before + 64) × (vec_capacity before ≤ vec_capacity after)

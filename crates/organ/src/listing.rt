@@ -1,6 +1,6 @@
 // The lines of a listing: what was done and what was refused.
 ghost use Rattle.std.specs.Prelude.{◌≡◌, ◌+◌, ◌≤◌, true, ◌++◌, length, is_ok, if◌then◌else◌, vec_len, vec_capacity, decimal};
-ghost use Rattle.organ.specs.Listing.{line_bytes};
+ghost use Rattle.organ.specs.Listing.{line_bytes, HasRoom, OneLineMore};
 
 use itoa::Buffer;
 use std::alloc::AllocError;
@@ -42,8 +42,8 @@ impl Line {
     // Adds the line to a listing. Where there is no memory for it, the listing is as it was.
     pub fn add_to(self, listing: &mut Vec<u8>) -> Result<(), AllocError>
         ensures items { listing.new.items ≡ (if is_ok result then listing.old.items ++ line_bytes self else listing.old.items) }
-        ensures succeeds { vec_len listing.old + 64 ≤ vec_capacity listing.old → is_ok result ≡ true }
-        ensures bound { (vec_len listing.new ≤ vec_len listing.old + 64) × (vec_capacity listing.old ≤ vec_capacity listing.new) }
+        ensures succeeds { HasRoom listing.old 1 → is_ok result ≡ true }
+        ensures bound { OneLineMore listing.old listing.new }
     {
         listing.reserve(LONGEST_LINE)?;
         match self {

@@ -5,6 +5,7 @@ ghost use Rattle.console.specs.Tracks.{Tracks};
 ghost use Rattle.organ.specs.Actions.{action_of};
 ghost use Rattle.organ.specs.Lines.{Answered};
 ghost use Rattle.organ.specs.Responses.{line_of, until, Responds};
+ghost use Rattle.organ.specs.Listing.{HasRoom, OneLineMore};
 
 use crate::action::Action;
 use crate::listing::{LONGEST_LINE, Line};
@@ -42,8 +43,8 @@ pub fn respond<C: Chest>(
 ) -> Result<(), AllocError>
     ensures answers { OnOk result (Responds C.Chest.meaning C.Chest.settled (action_of message) console.old console.new listing.old.items listing.new.items) }
     ensures same { OnErr result ((console.new ≡ console.old) × (listing.new.items ≡ listing.old.items)) }
-    ensures succeeds { vec_len listing.old + 64 ≤ vec_capacity listing.old → is_ok result ≡ true }
-    ensures bound { (vec_len listing.new ≤ vec_len listing.old + 64) × (vec_capacity listing.old ≤ vec_capacity listing.new) }
+    ensures succeeds { HasRoom listing.old 1 → is_ok result ≡ true }
+    ensures bound { OneLineMore listing.old listing.new }
 {
     listing.reserve(LONGEST_LINE)?;
     match Action::of(message) {
@@ -66,7 +67,7 @@ pub fn respond_all<C: Chest>(
     listing: &mut Vec<u8>,
 ) -> Result<(), OutOfMemory>
     ensures answers { (s : Setup) (p : Model) → Tracks C.Chest.meaning C.Chest.settled console.old s p → Answered C.Chest.meaning C.Chest.settled console.old console.new s p (take (until result (length messages.now)) messages.now) listing.old.items listing.new.items }
-    ensures succeeds { vec_len listing.old + 64 * length messages.now ≤ vec_capacity listing.old → is_ok result ≡ true }
+    ensures succeeds { HasRoom listing.old (length messages.now) → is_ok result ≡ true }
 {
     for (i, message) in messages.iter().enumerate() {
         if respond(console, *message, listing).is_err() {

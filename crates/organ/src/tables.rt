@@ -1,4 +1,5 @@
-// The knobs and pistons of a book, as a console takes them.
+// The knobs and pistons of a book, as a console takes them. Each table has calls of its own, so one function that filled
+// both would be handed all that it does.
 ghost use Rattle.std.specs.Prelude.{◌≡◌, ℕ};
 ghost use Rattle.console.specs.KnobTable.{steps_of, home_of};
 ghost use Rattle.console.specs.Pistons.{scope_of};

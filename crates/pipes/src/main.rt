@@ -10,7 +10,8 @@ use std::{fs, io};
 // The most bytes that are read at once.
 const PORTION: usize = 4096;
 
-// The bytes of the file: none where it is missing.
+// The bytes of the file: none where it is missing. Both programs have these lines, since a call that they shared could
+// promise nothing of them.
 fn book_text(rt: &HostRuntime) -> io::Result<Vec<u8>> {
     match fs::read(rt, "organ.book") {
         Err(e) if e.kind() == ErrorKind::NotFound => Ok(Vec::new(rt.alloc())),

@@ -4,6 +4,7 @@ ghost use Rattle.book.specs.Grammar.{Judged};
 ghost use Rattle.book.specs.Reading.{Answers, read_of};
 ghost use Rattle.recital.specs.Listings.{listing_of};
 ghost use Rattle.recital.specs.Performing.{Performs};
+ghost use Rattle.organ.specs.Listing.{HasRoom};
 
 use crate::playing::Recital;
 use book::{Book, BookFault, BookReader};
@@ -15,7 +16,7 @@ fn give(book: &Book, line: &[u8], listing: &mut Vec<u8>) -> Result<(), AllocErro
     ensures performs { (text : List ℕ) → Judged (Ok book.now) text → OnOk result ((given : List ℕ) × (listing.new.items ≡ listing.old.items ++ given) × Performs text line.now given) }
     ensures items { (text : List ℕ) → Judged (Ok book.now) text → OnOk result (listing.new.items ≡ listing.old.items ++ listing_of text line.now) }
     ensures same { OnErr result (listing.new.items ≡ listing.old.items) }
-    ensures succeeds { vec_len listing.old + 64 * (length line.now + 1) ≤ vec_capacity listing.old → is_ok result ≡ true }
+    ensures succeeds { HasRoom listing.old (length line.now + 1) → is_ok result ≡ true }
 {
     match Recital::open(book) {
         Ok(mut recital) => recital.play(line, listing),
@@ -28,7 +29,7 @@ fn tell(fault: BookFault, listing: &mut Vec<u8>) -> Result<(), AllocError>
     ensures performs { (text bytes : List ℕ) → Answers (Err fault) (read_of text) → Judged (Err fault) text → OnOk result ((given : List ℕ) × (listing.new.items ≡ listing.old.items ++ given) × Performs text bytes given) }
     ensures items { (text bytes : List ℕ) → Answers (Err fault) (read_of text) → Judged (Err fault) text → OnOk result (listing.new.items ≡ listing.old.items ++ listing_of text bytes) }
     ensures same { OnErr result (listing.new.items ≡ listing.old.items) }
-    ensures succeeds { vec_len listing.old + 64 ≤ vec_capacity listing.old → is_ok result ≡ true }
+    ensures succeeds { HasRoom listing.old 1 → is_ok result ≡ true }
 {
     Line::from(fault).add_to(listing)
 }
@@ -44,7 +45,7 @@ pub fn perform_with(
     ensures performs { OnOk result ((given : List ℕ) × (listing.new.items ≡ listing.old.items ++ given) × Performs text.now line.now given) }
     ensures items { OnOk result (listing.new.items ≡ listing.old.items ++ listing_of text.now line.now) }
     ensures same { OnErr result (listing.new.items ≡ listing.old.items) }
-    ensures succeeds { vec_len listing.old + 64 * (length line.now + 1) ≤ vec_capacity listing.old → is_ok result ≡ true }
+    ensures succeeds { HasRoom listing.old (length line.now + 1) → is_ok result ≡ true }
 {
     match reader.read(text) {
         Ok(book) => give(&book, line, listing),

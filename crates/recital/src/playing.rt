@@ -6,6 +6,7 @@ ghost use Rattle.bottom.specs.Magnet.{magnet_meaning, MagnetSettled};
 ghost use Rattle.console.specs.Sending.{Sends, StillTracks};
 ghost use Rattle.midi.specs.Steps.{HasRead};
 ghost use Rattle.recital.specs.Playing.{Hears, GoesOn, CaughtUp, ListsOn, Begins};
+ghost use Rattle.organ.specs.Listing.{HasRoom, OneLineMore};
 
 use book::Book;
 use bottom::magnet::MagnetChest;
@@ -31,7 +32,7 @@ pub type MagnetRecital = Recital<Stack<MagnetChest>>;
 // Makes room for this many lines.
 fn make_room(listing: &mut Vec<u8>, count: usize) -> Result<(), AllocError>
     ensures items { listing.new.items ≡ listing.old.items }
-    ensures cases { MatchResult result (λ _. vec_len listing.new + 64 * count ≤ vec_capacity listing.new) (λ _. vec_capacity listing.old < vec_len listing.old + 64 * count) }
+    ensures cases { MatchResult result (λ _. HasRoom listing.new count) (λ _. vec_capacity listing.old < vec_len listing.old + 64 * count) }
 {
     listing.reserve(count.saturating_mul(LONGEST_LINE))
 }
@@ -56,9 +57,9 @@ impl<C: Chest> Recital<C> {
 
     // Reads one byte and answers the message that it ends, where there is room for its line.
     fn hear(&mut self, byte: u8, listing: &mut Vec<u8>)
-        requires { vec_len listing.old + 64 ≤ vec_capacity listing.old }
+        requires { HasRoom listing.old 1 }
         ensures law { Hears C.Chest.meaning C.Chest.settled self.old self.new byte listing.old.items listing.new.items }
-        ensures bound { (vec_len listing.new ≤ vec_len listing.old + 64) × (vec_capacity listing.old ≤ vec_capacity listing.new) }
+        ensures bound { OneLineMore listing.old listing.new }
     {
         if let Some(message) = self.reader.feed(byte) {
             let _ = respond(&mut self.console, message, listing);
@@ -71,7 +72,7 @@ impl<C: Chest> Recital<C> {
         ensures law { OnOk result (GoesOn C.Chest.meaning C.Chest.settled self.old self.new bytes.now listing.old.items listing.new.items) }
         ensures items { OnOk result ((text line : List ℕ) → CaughtUp C.Chest.meaning C.Chest.settled self.old text line → ListsOn C.Chest.meaning C.Chest.settled self.new bytes.now listing.old.items listing.new.items text line) }
         ensures same { OnErr result ((self.new ≡ self.old) × (listing.new.items ≡ listing.old.items)) }
-        ensures succeeds { vec_len listing.old + 64 * length bytes.now ≤ vec_capacity listing.old → is_ok result ≡ true }
+        ensures succeeds { HasRoom listing.old (length bytes.now) → is_ok result ≡ true }
     {
         make_room(listing, bytes.len())?;
         for byte in bytes {

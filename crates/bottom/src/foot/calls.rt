@@ -32,7 +32,7 @@ impl Foot {
         if row >= ROWS {
             return Err(ChestFault::Row { row });
         }
-        Ok(self.reaches[row] as usize)
+        Ok(usize::from(self.reaches[row]))
     }
 
     pub(crate) fn position(&self, knob: usize) -> Result<usize, ChestFault>
@@ -41,7 +41,7 @@ impl Foot {
         if knob >= KNOBS {
             return Err(ChestFault::Knob { knob });
         }
-        Ok(self.positions[knob] as usize)
+        Ok(usize::from(self.positions[knob]))
     }
 
     pub(crate) fn set(&mut self, row: usize, place: usize, on: bool) -> Result<(), ChestFault>
