@@ -13,10 +13,11 @@ ghost use Rattle.std.proofs.lemmas.Bool.Decides.{nat_tests};
 use crate::handing::{hand_key, hand_knob};
 use crate::reads::Turn;
 use crate::wiring::Wiring;
-use chest::chest::{Chest, KNOBS, POSITIONS, ROWS};
+use chest::chest::{Chest, ROWS};
 use chest::fault::ChestFault;
 use chest::place::Place;
 use chest::sender::Sender;
+use chest::setting::Setting;
 
 #[derive(Drop)]
 pub struct RelayBoard<C: Chest> {
@@ -85,18 +86,13 @@ impl<C: Chest> Chest for RelayBoard<C> {
     }
 
     fn turn(&mut self, knob: usize, position: usize) -> Result<(), ChestFault> {
-        if knob >= KNOBS {
-            return Err(ChestFault::Knob { knob });
-        }
-        if position >= POSITIONS {
-            return Err(ChestFault::Position { knob, position });
-        }
-        let from = self.wiring.harness.position(knob);
-        if from != position {
+        let to = Setting::new(knob, position)?;
+        let from = self.wiring.harness.position(to.knob);
+        if from != to.position {
             self.move_knob(Turn {
-                knob,
+                knob: to.knob,
                 from,
-                to: position,
+                to: to.position,
             });
         }
         Ok(())

@@ -6,4 +6,5 @@ pub mod fault;
 pub mod laws;
 pub mod place;
 pub mod sender;
+pub mod setting;
 pub mod walks;

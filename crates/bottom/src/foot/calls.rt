@@ -7,9 +7,10 @@ ghost use Rattle.bottom.specs.Foot.{foot_meaning, new_bottom};
 use crate::bits::Bits;
 use crate::foot::Foot;
 use crate::table::PipeTable;
-use chest::chest::{KNOBS, PLACES, POSITIONS, ROWS};
+use chest::chest::{KNOBS, PLACES, ROWS};
 use chest::fault::ChestFault;
 use chest::place::Place;
+use chest::setting::Setting;
 
 impl Foot {
     pub(crate) fn new(reaches: [u8; ROWS]) -> Foot
@@ -29,19 +30,15 @@ impl Foot {
     pub(crate) fn reach(&self, row: usize) -> Result<usize, ChestFault>
         ensures { result ≡ reach_answer (foot_meaning self.now) row }
     {
-        if row >= ROWS {
-            return Err(ChestFault::Row { row });
-        }
-        Ok(usize::from(self.reaches[row]))
+        let reach = self.reaches.get(row).ok_or(ChestFault::Row { row })?;
+        Ok(usize::from(*reach))
     }
 
     pub(crate) fn position(&self, knob: usize) -> Result<usize, ChestFault>
         ensures { result ≡ position_answer (foot_meaning self.now) knob }
     {
-        if knob >= KNOBS {
-            return Err(ChestFault::Knob { knob });
-        }
-        Ok(usize::from(self.positions[knob]))
+        let position = self.positions.get(knob).ok_or(ChestFault::Knob { knob })?;
+        Ok(usize::from(*position))
     }
 
     pub(crate) fn set(&mut self, row: usize, place: usize, on: bool) -> Result<(), ChestFault>
@@ -62,13 +59,8 @@ impl Foot {
         ensures same { OnErr result (self.new ≡ self.old) }
         ensures after { foot_meaning self.new ≡ turn_after (foot_meaning self.old) knob position }
     {
-        if knob >= KNOBS {
-            return Err(ChestFault::Knob { knob });
-        }
-        if position >= POSITIONS {
-            return Err(ChestFault::Position { knob, position });
-        }
-        self.positions[knob] = position as u8;
+        let to = Setting::new(knob, position)?;
+        self.positions[to.knob] = to.position as u8;
         Ok(())
     }
 
