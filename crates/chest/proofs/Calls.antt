@@ -4,7 +4,7 @@ use Rattle.std.specs.Result.{result_unwrap_or}
 use Rattle.std.proofs.lemmas.Bool.Decides.{nat_tests}
 use Rattle.chest.specs.declared.fault.ChestFault.{ChestFault}
 use Rattle.chest.specs.Places.{put}
-use Rattle.chest.specs.Meaning.{Meaning, reach_answer, position_answer, set_answer, set_after, turn_answer, turn_after, with_register, with_panel, knob_to}
+use Rattle.chest.specs.Meaning.{Meaning, reach_answer, set_answer, set_after, turn_answer, turn_after, with_register, with_panel, knob_to}
 
 pub reach_is : (m : Meaning) (row n : ℕ) (r : Result ℕ ChestFault) → row < 16 → r ≡ reach_answer m row → n ≡ result_unwrap_or r 0 → n ≡ m.reach row
 reach_is m row n r h is value = value ∙ ap (λ a. result_unwrap_or a 0) (is ∙ answered) where
@@ -14,11 +14,6 @@ reach_is m row n r h is value = value ∙ ap (λ a. result_unwrap_or a 0) (is �
 -- a row whose reach is answered above a place is one of the 16
 pub row_of_place : (m : Meaning) (row n place : ℕ) (r : Result ℕ ChestFault) → r ≡ reach_answer m row → n ≡ result_unwrap_or r 0 → place < n → row < 16
 row_of_place m row n place r is value h = grind (arith, nat_tests, value ∙ ap (λ a. result_unwrap_or a 0) is)
-
-pub position_is : (m : Meaning) (knob n : ℕ) (r : Result ℕ ChestFault) → knob < 64 → r ≡ position_answer m knob → n ≡ result_unwrap_or r 0 → n ≡ m.panel knob
-position_is m knob n r h is value = value ∙ ap (λ a. result_unwrap_or a 0) (is ∙ answered) where
-  answered : position_answer m knob ≡ Ok (m.panel knob)
-  answered = grind (arith, nat_tests)
 
 pub set-done : (m : Meaning) (row place : ℕ) (on : Bool) → row < 16 → place < m.reach row → set_after m row place on ≡ with_register m (put m.register row place on)
 set-done m row place on h k =

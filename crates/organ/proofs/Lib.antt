@@ -1,4 +1,3 @@
-mod Numbers
 mod Runs
 mod Stacks
 mod Filling

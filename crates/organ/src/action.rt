@@ -95,10 +95,10 @@ fn note_action(channel: u8, note: u8, velocity: u8) -> Action
     }
 }
 
-impl Action {
-    pub fn of(message: Message) -> Action
-        ensures { result ≡ action_of message }
-    {
+impl From<Message> for Action {
+    ghost from_gives = { λ message action. action ≡ action_of message };
+
+    fn from(message: Message) -> Action {
         match message {
             Message::NoteOn {
                 channel,

@@ -47,7 +47,7 @@ pub fn respond<C: Chest>(
     ensures bound { OneLineMore listing.old listing.new }
 {
     listing.reserve(LONGEST_LINE)?;
-    match Action::of(message) {
+    match Action::from(message) {
         Action::Nothing => Ok(()),
         Action::Perform(call) => Line::from(console.perform(call)).add_to(listing),
         Action::LowNote { division, note } => {

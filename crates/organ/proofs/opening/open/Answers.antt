@@ -1,19 +1,9 @@
 -- The stack is assembled, and its console made.
-use Rattle.std.proofs.Common.{vec_items, Err, sym, ap, ◌∙◌, subst}
-use Rattle.std.proofs.lemmas.Result.{err_from_is_err_and}
+use Rattle.std.proofs.Common.{vec_items, subst}
 use Rattle.book.specs.Asking.{keys_in}
 use Rattle.organ.specs.Assembly.{Assembles, hang_all}
-use Rattle.organ.specs.Opening.{Opens}
-use Rattle.organ.proofs.Organs.{opens, refuses}
+use Rattle.organ.proofs.Organs.{opens}
 use Rattle.organ.proofs.opening.open.Goals as goal
-
-pub returns-in_err-stack : goal.returns-in_err-stack
-returns-in_err-stack g c = λ start.
-    let book = c.args.book.now in
-    let m = g.C.Chest.meaning c.args.bottom in
-    let p = err_from_is_err_and c.from_residual.result c.from_residual.ensures.1 in
-    let made = subst (Assembles g.C.Chest.meaning g.C.Chest.settled (keys_in book) m (hang_all (keys_in book) m (vec_items book.wires))) (c.in_err-stack.was ∙ ap Err (sym p.2)) (c.assemble.ensures start) in
-    subst (Opens g.C.Chest.meaning g.C.Chest.settled book m (hang_all (keys_in book) m (vec_items book.wires))) (sym p.1) (refuses g.C.Chest.meaning g.C.Chest.settled book m (hang_all (keys_in book) m (vec_items book.wires)) p.0 made)
 
 pub returns : goal.returns
 returns g c = λ start.

@@ -5,11 +5,8 @@ use Rattle.midi.specs.declared.message.Message.TheVariants.{NoteOff}
 use Rattle.organ.specs.Actions.{action_of}
 use Rattle.organ.specs.Responses.{Responds}
 use Rattle.organ.specs.Lines.{Answered}
-use Rattle.organ.proofs.Answering.{ok_so, answered_none, answered_more}
+use Rattle.organ.proofs.Answering.{ok_so, answered_more}
 use Rattle.organ.proofs.response.respond_all.Goals as goal
-
-pub loop-i-init : goal.loop-i-init
-loop-i-init g c = ((omega arith, omega arith), λ s p t. answered_none (vec_items c.args.listing.now) t)
 
 pub loop-i-preserved : goal.loop-i-preserved
 loop-i-preserved g c = (

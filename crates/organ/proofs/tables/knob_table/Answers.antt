@@ -1,18 +1,13 @@
 -- No knob yet, one more, and all.
-use Rattle.std.proofs.Common.{◌≡◌, ℕ, ◌≤◌, true, ◌&&◌, ltb, None, unwrap_or, ap, ◌∙◌, subst, arith}
+use Rattle.std.proofs.Common.{◌≡◌, true, ◌&&◌, ltb, None, unwrap_or, ap, ◌∙◌, arith}
 use Rattle.std.specs.Option.{option_map}
 use Rattle.std.proofs.lemmas.Bool.Decides.{nat_tests}
-use Rattle.book.specs.Asking.{knob_in}
 use Rattle.console.specs.Knobs.{sound}
 use Rattle.console.specs.KnobTable.{steps_of, home_of}
 use Rattle.organ.specs.Tables.{book_steps, book_home}
-use Rattle.organ.proofs.Filling.{Filled, one_more, none_more, filled_all, defined}
+use Rattle.organ.proofs.Filling.{one_more, none_more, defined}
 use Rattle.organ.proofs.tables.knob_table.Goals as goal
 use Rattle.organ.proofs.tables.knob_table.Goals.{in-Some, in_default}
-
-pub loop-k-init : goal.loop-k-init
-loop-k-init c =
-    (((λ k h. absurd (omega arith)), λ k h. c.new-table.ensures.steps k), ((λ k h. absurd (omega arith)), λ k h. c.new-table.ensures.homes k))
 
 pub loop-k-preserved : goal.loop-k-preserved
 loop-k-preserved c =
@@ -34,14 +29,3 @@ loop-k-preserved c =
         none_more (book_home b) 0 (home_of t) (home_of next) k c.loop-k.invariant.1 (ap home_of w.table-is) (ap (λ o. unwrap_or (option_map (λ q. q.home) o) 0) w.in_default.ensures.value),
       )
     ]
-
-pub returns : goal.returns
-returns c =
-    let b = c.args.book.now in
-    let t = c.loop-k.table in
-    let all : c.loop-k.k ≡ 64 = omega arith in
-    let past : (k : ℕ) → 64 ≤ k → knob_in b k ≡ None = λ k h. grind (arith, nat_tests) in
-    record {
-      steps = filled_all (book_steps b) None (steps_of t) 64 (subst (Filled (book_steps b) None (steps_of t)) all c.loop-k.invariant.0) (λ k h. ap (option_map (λ q. q.steps)) (past k h));
-      homes = filled_all (book_home b) 0 (home_of t) 64 (subst (Filled (book_home b) 0 (home_of t)) all c.loop-k.invariant.1) (λ k h. ap (λ o. unwrap_or (option_map (λ q. q.home) o) 0) (past k h));
-    }

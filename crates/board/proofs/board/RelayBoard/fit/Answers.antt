@@ -1,30 +1,11 @@
 -- The answers for `RelayBoard::fit`: the wire is refused, or stands last.
-use Rattle.std.proofs.Common.{◌≡◌, ◌<◌, true, length, Err, sym, refl, ap, ◌∙◌, subst, arith}
-use Rattle.std.proofs.lemmas.Result.{err_from_is_err_and, IfOk-from_err}
+use Rattle.std.proofs.Common.{◌≡◌, ◌<◌, true, length, sym, refl, ap, ◌∙◌, subst, arith}
 use Rattle.std.proofs.lemmas.Bool.Decides.{nat_tests}
 use Rattle.board.specs.Layout.{layout, with_wire}
 use Rattle.board.specs.Board.{board_meaning, Stands}
 use Rattle.board.specs.Fitting.{is_free, wire_checks, lead_of}
-use Rattle.board.proofs.Fits.{checks_fail, checks_pass, fit_checks, fit_refused, fit_done, refused_so, free_of, wire_stands}
+use Rattle.board.proofs.Fits.{checks_pass, fit_checks, fit_done, free_of, wire_stands}
 use Rattle.board.proofs.board.RelayBoard.fit.Goals as goal
-
-pub returns-in_err-lead : goal.returns-in_err-lead
-returns-in_err-lead g c =
-    let wiring = c.args.self.now.wiring in
-    let l = layout wiring in
-    let m = g.C.Chest.meaning c.args.self.now.below in
-    let w = c.args.wire in
-    let p = err_from_is_err_and c.from_residual.result c.from_residual.ensures.1 in
-    let e = c.in_err-lead.field-0.0 in
-    let free : is_free l.register ≡ true = sym c.is_free.ensures ∙ c.if-not-is_free.false in
-    let room : length l.wires < 128 = grind (arith, nat_tests, c.is_full.ensures.value, c.is_full.ensures.fits, c.if-is_full.false) in
-    let answer = fit_checks l m w free room ∙ checks_fail (wire_checks l m w) (lead_of w) tt e (sym c.lead.ensures ∙ c.in_err-lead.was) in
-    record {
-      answer = p.1 ∙ ap Err p.2 ∙ sym answer;
-      same = refused_so c.from_residual.result refl;
-      items = IfOk-from_err c.from_residual.result _ c.from_residual.ensures.0;
-      after = λ settled. (settled, sym (fit_refused l m w e answer));
-    }
 
 pub add-requires : goal.add-requires
 add-requires g c = record { room = grind (arith, nat_tests, c.is_full.ensures.value, c.is_full.ensures.fits, c.if-is_full.false); free = free_of c.args.self.now.wiring.harness (sym c.is_free.ensures ∙ c.if-not-is_free.false) }

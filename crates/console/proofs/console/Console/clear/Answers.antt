@@ -2,19 +2,10 @@
 use Rattle.std.proofs.Common.{refl, ap, ◌∙◌, rules, arith}
 use Rattle.std.proofs.lemmas.Bool.Decides.{nat_tests}
 use Rattle.console.specs.declared.call.Call.TheVariants.{Clear}
-use Rattle.console.specs.declared.fault.PlayFault.TheVariants.{Division}
 use Rattle.console.specs.Keys.{sounding, cleared}
 use Rattle.console.specs.KeyTable.{keys_of}
-use Rattle.console.proofs.Steps.{refused_follows}
 use Rattle.console.proofs.Follow.{row_follows, held-cleared, others_cleared, fewer_cleared}
 use Rattle.console.proofs.console.Console.clear.Goals as goal
-
-pub returns-then-division-ge-ROWS : goal.returns-then-division-ge-ROWS
-returns-then-division-ge-ROWS g c =
-    record {
-      follows = λ s p t. refused_follows g.met.C.Chest.quiet (Clear c.args.division) (Division c.args.division) _ t refl (grind (arith, nat_tests));
-      same = refl;
-    }
 
 pub returns : goal.returns
 returns g c =

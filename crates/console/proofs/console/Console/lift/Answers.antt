@@ -3,9 +3,8 @@ use Rattle.std.proofs.Common.{Err, refl, ap, ◌∙◌, arith}
 use Rattle.std.proofs.lemmas.Result.{err_from_is_err_and}
 use Rattle.std.proofs.lemmas.Bool.Decides.{nat_tests}
 use Rattle.console.specs.declared.call.Call.TheVariants.{Lift}
-use Rattle.console.specs.declared.fault.PlayFault.TheVariants.{KeyUp}
 use Rattle.console.specs.Keys.{lifted, sounding}
-use Rattle.console.proofs.Steps.{refused_follows, unchanged}
+use Rattle.console.proofs.Steps.{unchanged}
 use Rattle.console.proofs.Follow.{key_refused, key_follows, others_lifted}
 use Rattle.console.proofs.console.Console.lift.Goals as goal
 
@@ -15,20 +14,6 @@ returns-in_err-at g c =
     record {
       follows = λ s p t. key_refused g.met.C.Chest.quiet (Lift c.args.division c.args.key) c.args.division c.args.key _ c.in_err-at.field-0.0 c.from_residual.result t refl (e.1 ∙ ap Err e.2) c.in_err-at.ensures.refused;
       same = unchanged c.from_residual.result c.args.self.now;
-    }
-
-pub returns-then-not-is_down : goal.returns-then-not-is_down
-returns-then-not-is_down g c =
-    let d = c.args.division in
-    let k = c.args.key in
-    let at = c.in_ok-at.ensures.passed in
-    let low = c.in_ok-at.at.row_in in
-    record {
-      follows = λ s p t.
-          let reach = ap (λ x. x.reach d) t.setup in
-          let down = c.is_down.ensures ∙ (λ i. (t.keys i).down (at.0 i) (at.1 i)) in
-          refused_follows g.met.C.Chest.quiet (Lift d k) (KeyUp d k) _ t refl (grind (arith, nat_tests));
-      same = refl;
     }
 
 pub returns : goal.returns

@@ -3,9 +3,8 @@ use Rattle.std.proofs.Common.{true, Err, refl, ap, ◌∙◌, arith}
 use Rattle.std.proofs.lemmas.Result.{err_from_is_err_and}
 use Rattle.std.proofs.lemmas.Bool.Decides.{nat_tests}
 use Rattle.console.specs.declared.call.Call.TheVariants.{Press}
-use Rattle.console.specs.declared.fault.PlayFault.TheVariants.{KeyDown}
 use Rattle.console.specs.Keys.{pressed}
-use Rattle.console.proofs.Steps.{refused_follows, unchanged}
+use Rattle.console.proofs.Steps.{unchanged}
 use Rattle.console.proofs.Follow.{key_refused, key_follows, held-pressed, others_pressed, sounds_pressed}
 use Rattle.console.proofs.console.Console.press.Goals as goal
 
@@ -15,20 +14,6 @@ returns-in_err-at g c =
     record {
       follows = λ s p t. key_refused g.met.C.Chest.quiet (Press c.args.division c.args.key) c.args.division c.args.key _ c.in_err-at.field-0.0 c.from_residual.result t refl (e.1 ∙ ap Err e.2) c.in_err-at.ensures.refused;
       same = unchanged c.from_residual.result c.args.self.now;
-    }
-
-pub returns-then-is_down : goal.returns-then-is_down
-returns-then-is_down g c =
-    let d = c.args.division in
-    let k = c.args.key in
-    let at = c.in_ok-at.ensures.passed in
-    let low = c.in_ok-at.at.row_in in
-    record {
-      follows = λ s p t.
-          let reach = ap (λ x. x.reach d) t.setup in
-          let down = c.is_down.ensures ∙ (λ i. (t.keys i).down (at.0 i) (at.1 i)) in
-          refused_follows g.met.C.Chest.quiet (Press d k) (KeyDown d k) _ t refl (grind (arith, nat_tests));
-      same = refl;
     }
 
 pub returns : goal.returns

@@ -3,22 +3,12 @@ use Rattle.std.proofs.Common.{ℕ, cond, get_or, is_some, Ok, Err, Option, sym, 
 use Rattle.std.specs.Option.{option_map}
 use Rattle.std.proofs.lemmas.Result.{err_from_is_err_and}
 use Rattle.console.specs.declared.call.Call.TheVariants.{Recall}
-use Rattle.console.specs.declared.fault.PlayFault.TheVariants.{Piston, NeverCaptured}
+use Rattle.console.specs.declared.fault.PlayFault.TheVariants.{NeverCaptured}
 use Rattle.console.specs.Model.{piston_check, recalled, memory, Memory}
 use Rattle.console.proofs.Steps.{refused_follows, unchanged, missing}
 use Rattle.console.proofs.Follow.{panel-follows}
 use Rattle.console.proofs.Panels.{recalled-is, memory_is}
 use Rattle.console.proofs.console.Console.recall.Goals as goal
-
-pub returns-in_err-scope : goal.returns-in_err-scope
-returns-in_err-scope g c =
-    let q = c.args.piston in
-    let e = err_from_is_err_and c.from_residual.result c.from_residual.ensures.1 in
-    let fault = missing c.scope.result c.in_err-scope.field-0.0 (Piston q) c.in_err-scope.ensures.value in
-    record {
-      follows = λ s p t. refused_follows g.met.C.Chest.quiet (Recall q) (Piston q) _ t (e.1 ∙ ap Err (e.2 ∙ fault)) (ap (λ o. piston_check o q (cond (is_some (p.stored q)) (Ok tt) (Err (NeverCaptured q)))) (sym (ap (λ x. x.scope q) t.setup) ∙ sym c.scope.ensures ∙ c.in_err-scope.ensures.ok_part));
-      same = unchanged c.from_residual.result c.args.self.now;
-    }
 
 pub returns-in_err-frame-clause-same : goal.returns-in_err-frame-clause-same
 returns-in_err-frame-clause-same g c = unchanged c.from_residual-in_err-frame.result c.args.self.now

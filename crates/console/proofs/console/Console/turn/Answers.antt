@@ -1,26 +1,13 @@
 -- The answers for `Console::turn`.
-use Rattle.std.proofs.Common.{◌<◌, ◌≤◌, Err, sym, refl, ap, ◌∙◌, arith}
-use Rattle.std.proofs.lemmas.Result.{err_from_is_err_and}
+use Rattle.std.proofs.Common.{◌<◌, ◌≤◌, sym, refl, ap, ◌∙◌, arith}
 use Rattle.chest.specs.Meaning.{Panel, with_panel, knob_to}
 use Rattle.chest.proofs.Calls.{turn_done}
 use Rattle.console.specs.declared.call.Call.TheVariants.{Turn}
-use Rattle.console.specs.declared.fault.PlayFault.TheVariants.{Knob, Position}
-use Rattle.console.specs.Model.{knob_check}
-use Rattle.console.proofs.Steps.{refused_follows, unchanged, missing}
+use Rattle.console.specs.declared.fault.PlayFault.TheVariants.{Position}
+use Rattle.console.proofs.Steps.{refused_follows}
 use Rattle.console.proofs.Follow.{panel-follows}
 use Rattle.console.proofs.Panels.{knob_passes, knob_fails}
 use Rattle.console.proofs.console.Console.turn.Goals as goal
-
-pub returns-in_err-steps : goal.returns-in_err-steps
-returns-in_err-steps g c =
-    let k = c.args.knob in
-    let q = c.args.position in
-    let e = err_from_is_err_and c.from_residual.result c.from_residual.ensures.1 in
-    let fault = missing c.steps.result c.in_err-steps.field-0.0 (Knob k) c.in_err-steps.ensures.value in
-    record {
-      follows = λ s p t. refused_follows g.met.C.Chest.quiet (Turn k q) (Knob k) _ t (e.1 ∙ ap Err (e.2 ∙ fault)) (ap (λ o. knob_check o k q) (sym (ap (λ x. x.steps k) t.setup) ∙ sym c.steps.ensures.value ∙ c.in_err-steps.ensures.ok_part));
-      same = unchanged c.from_residual.result c.args.self.now;
-    }
 
 pub returns-then-position-steps : goal.returns-then-position-steps
 returns-then-position-steps g c =

@@ -1,10 +1,7 @@
 -- The law, the range and the invariant follow from the step.
 use Rattle.midi.proofs.Lines.{feeds_step}
-use Rattle.midi.proofs.States.{line_to, fed_sound, fed_range}
+use Rattle.midi.proofs.States.{line_to, fed_range}
 use Rattle.midi.proofs.reader.Reader.feed.Goals as goal
-
-pub invariant_of-self : goal.invariant_of-self
-invariant_of-self c = record { ok = fed_sound _ _ c.args.byte _ c.feed.ensures.value c.args.self.now.ok }
 
 pub returns : goal.returns
 returns c =
