@@ -8,7 +8,8 @@ use Rattle.book.specs.declared.record.Book.{Book}
 use Rattle.book.specs.Entries.{Entry, first_said, said, wire_of, wires_of, Holds, keys_of, pipes_of, knob_of, scope_of}
 use Rattle.book.specs.Limits.{rows, knobs, pistons}
 use Rattle.book.specs.declared.tables.Taken.{Taken}
-use Rattle.book.specs.Tables.{Gives, place_at}
+use Rattle.fittings.specs.Tables.{place_at}
+use Rattle.book.specs.Tables.{Gives}
 
 first-assoc : {X : Type 0} (a b c : Option X) → first_said a (first_said b c) ≡ first_said (first_said a b) c
 first-assoc None b c = refl

@@ -6,7 +6,7 @@ use Rattle.book.specs.declared.forms.Board.TheVariants.{Coupler, Stop}
 use Rattle.book.specs.declared.record.Book.{Book}
 use Rattle.book.specs.declared.record.BookWire.{BookWire}
 use Rattle.book.specs.Limits.{rows, knobs, pistons}
-use Rattle.book.specs.Tables.{place_at}
+use Rattle.fittings.specs.Tables.{place_at}
 use Rattle.fittings.specs.declared.Knob.{Knob}
 use Rattle.fittings.specs.declared.Scope.{Scope}
 

@@ -5,7 +5,7 @@ use Rattle.book.specs.declared.forms.Form.TheVariants as form
 use Rattle.book.specs.declared.record.Book.{Book}
 use Rattle.book.specs.declared.record.BookWire.{BookWire}
 use Rattle.book.specs.Limits.{rows, most_places, knobs, pistons, most_wires, Sound, Ordered}
-use Rattle.book.specs.Tables.{place_at}
+use Rattle.fittings.specs.Tables.{place_at}
 use Rattle.fittings.specs.declared.Knob.{Knob}
 use Rattle.fittings.specs.declared.Scope.{Scope}
 

@@ -5,8 +5,7 @@ ghost use Rattle.book.specs.Limits.{most_places, Sound, Ordered};
 
 use crate::forms::Board;
 use crate::record::{Book, BookWire};
-use crate::tables::told;
-use fittings::{Knob, Scope};
+use fittings::{Knob, Scope, told};
 
 impl Book {
     // How many keys a division has: 0 where the book does not name it.

@@ -6,8 +6,8 @@ ghost use Rattle.book.specs.Limits.{most_wires};
 use crate::forms::Form;
 use crate::limits::MOST_WIRES;
 use crate::record::{Book, BookWire};
-use crate::tables::{Taken, give, silent};
-use fittings::{Knob, Scope};
+use crate::tables::{Taken, give};
+use fittings::{Knob, Scope, silent};
 
 impl Book {
     // The record of a book without forms, with room for all its wires.

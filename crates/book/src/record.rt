@@ -1,7 +1,7 @@
 // The record of a book: what its forms say, by row, knob and piston, and its wires in their order.
 ghost use Rattle.std.specs.Prelude.{◌≤◌, vec_len, vec_capacity};
 ghost use Rattle.book.specs.Limits.{most_places, most_wires, Sound, Ordered};
-ghost use Rattle.book.specs.Tables.{AllGiven};
+ghost use Rattle.fittings.specs.Tables.{AllGiven};
 
 use crate::forms::Board;
 use crate::limits::{KNOBS, PISTONS, ROWS};

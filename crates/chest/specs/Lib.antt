@@ -1,4 +1,5 @@
 pub mod Faults
 pub mod Places
+pub mod Reaches
 pub mod Meaning
 pub mod Walks

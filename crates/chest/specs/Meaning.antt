@@ -1,8 +1,9 @@
 -- What a chest means, and what each call makes of that. Assumes nothing.
 use Rattle.std.specs.Prelude.{◌≡◌, ℕ, ◌+◌, ◌%◌, ◌^◌, ◌<◌, ◌≤◌, Bool, true, cond, is_ok, Ok, Err, Result, ◌==◌, nat_lt}
 use Rattle.chest.specs.declared.fault.ChestFault.{ChestFault}
-use Rattle.chest.specs.declared.fault.ChestFault.TheVariants.{Row, Place, Knob, Position}
+use Rattle.chest.specs.declared.fault.ChestFault.TheVariants.{Knob, Position}
 use Rattle.chest.specs.Places.{Places, put}
+use Rattle.chest.specs.Reaches.{reach_in, place_in}
 
 -- the position of each knob
 abbrev pub Panel : Type 0
@@ -47,15 +48,14 @@ knob_to panel knob position k = cond (k == knob) position (panel k)
 
 -- the reach of a row, the position of a knob
 abbrev pub reach_answer : Meaning → ℕ → Result ℕ ChestFault
-reach_answer m row = cond (nat_lt row 16) (Ok (m.reach row)) (Err (Row row))
+reach_answer m = reach_in m.reach
 
 abbrev pub position_answer : Meaning → ℕ → Result ℕ ChestFault
 position_answer m knob = cond (nat_lt knob 64) (Ok (m.panel knob)) (Err (Knob knob))
 
 -- one place is put on or off
 abbrev pub set_answer : Meaning → ℕ → ℕ → Result Unit ChestFault
-set_answer m row place =
-    cond (nat_lt row 16) (cond (nat_lt place (m.reach row)) (Ok tt) (Err (Place row place))) (Err (Row row))
+set_answer m = place_in m.reach
 
 abbrev pub set_after : Meaning → ℕ → ℕ → Bool → Meaning
 set_after m row place on =

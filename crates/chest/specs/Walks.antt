@@ -1,6 +1,5 @@
 -- What walks over a chest leave. Assumes nothing.
-use Rattle.std.specs.Prelude.{◌≡◌, ℕ, Bool, false, cond, ◌&&◌, ◌==◌, nat_lt}
-use Rattle.chest.specs.declared.place.Place.{Place}
+use Rattle.std.specs.Prelude.{ℕ, false, cond, ◌&&◌, ◌==◌, nat_lt}
 use Rattle.chest.specs.Places.{Places}
 use Rattle.chest.specs.Meaning.{Meaning, with_register}
 
@@ -11,7 +10,3 @@ row_shown m s row n = with_register m (λ r p. cond (r == row && nat_lt p n) (s 
 -- the places of the first n rows out
 abbrev pub rows_out : Meaning → ℕ → Meaning
 rows_out m n = with_register m (λ r p. cond (nat_lt r n && nat_lt p (m.reach r)) false (m.register r p))
-
--- what a rule answers of a place is whether the place is in the set
-abbrev pub Tells : (Place → Bool → Type 0) → Places → Type 0
-Tells answers s = (at : Place) (on : Bool) → answers at on → on ≡ s at.row at.place

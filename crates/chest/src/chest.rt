@@ -4,14 +4,7 @@ ghost use Rattle.chest.specs.Places.{none, changed};
 ghost use Rattle.chest.specs.Meaning.{Meaning, Panel, Bounded, Becomes, reach_answer, position_answer, set_answer, set_after, turn_answer, turn_after, strobe_after};
 
 use crate::fault::ChestFault;
-
-pub const ROWS: usize = 16;
-
-pub const PLACES: usize = 128;
-
-pub const KNOBS: usize = 64;
-
-pub const POSITIONS: usize = 16;
+pub use fittings::{KNOBS, PLACES, POSITIONS, ROWS};
 
 // A chest stands by its meaning, a record of six parts, and each call says what it answers and what it makes of them.
 //

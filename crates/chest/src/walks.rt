@@ -2,19 +2,39 @@
 ghost use Rattle.std.specs.Prelude.{◌≡◌, ℕ, ◌<◌, ◌≤◌, slice_index};
 ghost use Rattle.chest.specs.Places.{Places, none};
 ghost use Rattle.chest.specs.Meaning.{Becomes, with_register};
-ghost use Rattle.chest.specs.Walks.{row_shown, Tells};
+ghost use Rattle.chest.specs.Reaches.{reaches_of};
+ghost use Rattle.chest.specs.Walks.{row_shown};
 
 use crate::chest::{Chest, KNOBS, ROWS};
 use crate::place::Place;
+use crate::reaches::Reaches;
 use std::array;
 
+// Which places are to be set. A trait, since of a closure a walk would have to ask that it can be called.
+pub trait Rule {
+    ghost set: { Self → Places };
+
+    fn sets(&self, at: Place) -> bool
+        ensures { result ≡ set self.now at.row at.place };
+}
+
+// No place is.
+struct Nowhere;
+
+impl Rule for Nowhere {
+    ghost set = { λ _. none };
+
+    fn sets(&self, _at: Place) -> bool {
+        false
+    }
+}
+
 // Puts each place of a row on or off, as a rule says of it.
-pub fn show_row<C: Chest, F: Fn(Place) -> bool>(chest: &mut C, row: usize, on: F)
-    requires { F.IsAlwaysCallable on }
-    ensures { (s : Places) → Tells (F.post on) s → Becomes C.meaning C.settled chest.old chest.new (row_shown (C.meaning chest.old) s row ((C.meaning chest.old).reach row)) }
+pub fn show_row<C: Chest, R: Rule>(chest: &mut C, row: usize, rule: &R)
+    ensures { Becomes C.meaning C.settled chest.old chest.new (row_shown (C.meaning chest.old) (R.set rule.now) row ((C.meaning chest.old).reach row)) }
 {
     for place in 0..chest.reach(row).unwrap_or(0) {
-        let _ = chest.set(row, place, on(Place { row, place }));
+        let _ = chest.set(row, place, rule.sets(Place { row, place }));
     }
 }
 
@@ -23,7 +43,7 @@ pub fn clear<C: Chest>(chest: &mut C)
     ensures { Becomes C.meaning C.settled chest.old chest.new (with_register (C.meaning chest.old) none) }
 {
     for row in 0..ROWS {
-        show_row(chest, row, |_| false);
+        show_row(chest, row, &Nowhere);
     }
 }
 
@@ -44,11 +64,10 @@ fn position_at<C: Chest>(chest: &C, knob: usize) -> u8
 }
 
 // The reaches of all rows.
-pub fn reaches<C: Chest>(chest: &C) -> [u8; ROWS]
-    ensures value { (r : ℕ) → r < 16 → slice_index result r ≡ (C.meaning chest.now).reach r }
-    ensures bound { (r : ℕ) → slice_index result r ≤ 128 }
+pub fn reaches<C: Chest>(chest: &C) -> Reaches
+    ensures { reaches_of result ≡ (C.meaning chest.now).reach }
 {
-    array::from_fn(|row| reach_at(chest, row))
+    Reaches::new(array::from_fn(|row| reach_at(chest, row)))
 }
 
 // The positions of all knobs.

@@ -1,5 +1,26 @@
-// What an organ is fitted with, as a book describes it and the relay takes it: knobs, pistons' scopes and wires.
+// What an organ is fitted with, as a book describes it and the relay takes it: its sizes, knobs, pistons' scopes and
+// wires, and tables of what is said of each.
 #![tactic(auto)]
+
+mod tables;
+
+pub use tables::{silent, told};
+
+// Rows of each level: divisions or ranks.
+pub const ROWS: usize = 16;
+
+// Places of a row at most: keys or pipes.
+pub const PLACES: usize = 128;
+
+pub const KNOBS: usize = 64;
+
+// Positions of a knob at most.
+pub const POSITIONS: usize = 16;
+
+pub const PISTONS: usize = 40;
+
+// How far a wire shifts at most, up or down.
+pub const SHIFTS: u8 = 96;
 
 // The steps of a knob, and the position it goes home to.
 #[derive(Clone, Copy, Debug, PartialEq)]

@@ -1,0 +1,58 @@
+// How many places each row has.
+ghost use Rattle.std.specs.Prelude.{◌≡◌, ℕ, ◌<◌, ◌≤◌, min, Ok, Err, MatchResult, slice_index};
+
+use crate::chest::{PLACES, ROWS};
+use crate::fault::ChestFault;
+use crate::place::Place;
+
+#[derive(Clone, Copy)]
+pub struct Reaches {
+    table: [u8; ROWS],
+    ghost low: { (r : ℕ) → slice_index table r ≤ 128 },
+}
+
+// Each number above 128 as 128.
+fn capped(table: [u8; ROWS]) -> [u8; ROWS]
+    ensures { (k : ℕ) → slice_index result k ≡ min (slice_index table k) 128 }
+{
+    table.map(|reach| reach.min(PLACES as u8))
+}
+
+impl Reaches {
+    ghost use Rattle.chest.specs.Reaches.{reach_of, reaches_of, reach_in, place_in};
+
+    // A reach above 128 counts as 128.
+    pub fn new(table: [u8; ROWS]) -> Reaches
+        ensures { reaches_of result ≡ reach_of table }
+    {
+        Reaches {
+            table: capped(table),
+        }
+    }
+
+    // The reach of a row, 0 where there is no such row.
+    pub fn of(&self, row: usize) -> usize
+        ensures value { result ≡ reaches_of self.now row }
+        ensures bound { result ≤ 128 }
+    {
+        self.table.get(row).map_or(0, |reach| usize::from(*reach))
+    }
+
+    // The reach of a row that there is.
+    pub fn reach(&self, row: usize) -> Result<usize, ChestFault>
+        ensures { result ≡ reach_in (reaches_of self.now) row }
+    {
+        let reach = self.table.get(row).ok_or(ChestFault::Row { row })?;
+        Ok(usize::from(*reach))
+    }
+
+    // A place that there is.
+    pub fn place(&self, row: usize, place: usize) -> Result<Place, ChestFault>
+        ensures { MatchResult result (λ at. (place_in (reaches_of self.now) row place ≡ Ok tt) × (at.row ≡ row) × (at.place ≡ place) × (place < reaches_of self.now row)) (λ fault. place_in (reaches_of self.now) row place ≡ Err fault) }
+    {
+        if place >= self.reach(row)? {
+            return Err(ChestFault::Place { row, place });
+        }
+        Ok(Place { row, place })
+    }
+}
