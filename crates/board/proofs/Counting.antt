@@ -7,17 +7,19 @@ use Rattle.chest.specs.Places.{total, put}
 use Rattle.chest.specs.Meaning.{knob_to}
 use Rattle.chest.proofs.Totals.{total-zero, total-more}
 use Rattle.board.specs.declared.wire.Lead.{Lead}
-use Rattle.board.specs.declared.harness.Harness.{Harness}
+use Rattle.board.specs.declared.wiring.Wiring.{Wiring}
+use Rattle.board.specs.declared.swing.Swing.{Swing}
+use Rattle.board.specs.Swings.{starts}
 use Rattle.board.specs.Wires.{landing, is_at, way, span, through}
-use Rattle.board.specs.Harness.{beneath, register, panel, wires, outlet, meets, swing}
-use Rattle.board.specs.Counts.{at_place, Moves, Room}
+use Rattle.board.specs.Wiring.{beneath, register, panel, wires, outlet, meets, swing}
+use Rattle.board.specs.Counts.{at_place, Fits, Moves, Room}
 use Rattle.board.proofs.Sums.{total-part, total-past, walked, walked_more, walked-le}
 use Rattle.board.proofs.Ways.{Swung, outlet-below, through-one, through-put, through-swing, way-is, way-low, way-high}
 
 by_hit : (x y was on : Bool) (new old n m : ℕ) → was ≡ not on → x ≡ y → new + cond (x && was) 1 0 ≡ old + cond (x && on) 1 0 → m + old ≡ n + new → m + cond on 0 (cond y 1 0) ≡ n + cond on (cond y 1 0) 0
 by_hit x y was on new old n m other same one more = grind (arith, nat_tests)
 
-by_room : (on x : Bool) (n m : ℕ) → x ≡ true → m + cond on 0 (cond x 1 0) ≡ n + cond on (cond x 1 0) 0 → m ≤ 128 → (n + cond on 1 0 < 256) × (cond on 0 1 ≤ n)
+by_room : (on x : Bool) (n m : ℕ) → x ≡ true → m + cond on 0 (cond x 1 0) ≡ n + cond on (cond x 1 0) 0 → m ≤ 128 → Fits on n 1
 by_room true true n m e moved most = (omega arith, omega arith)
 by_room false true n m e moved most = (omega arith, omega arith)
 by_room true false n m e moved most = absurd (false≢true e)
@@ -29,15 +31,15 @@ by_steps true x y z m d n one two all = omega arith
 by_steps false x y z m d n one two all = omega arith
 
 -- one more of a move that has room
-by_part : (up : Bool) (x y m n : ℕ) → y + cond up 0 m ≡ x + cond up m 0 → m + 1 ≤ n → (x + cond up n 0 < 256) × (cond up 0 n ≤ x) → (y + cond up 1 0 < 256) × (cond up 0 1 ≤ y)
+by_part : (up : Bool) (x y m n : ℕ) → y + cond up 0 m ≡ x + cond up m 0 → m + 1 ≤ n → Fits up x n → Fits up y 1
 by_part true x y m n inv part room = (omega arith, omega arith)
 by_part false x y m n inv part room = (omega arith, omega arith)
 
-by_swing : (o : Option Bool) (new old by m n : ℕ) → Swung o new old by → m + old ≡ n + new → Swung o m n by
+by_swing : (o : Option Swing) (new old by m n : ℕ) → Swung o new old by → m + old ≡ n + new → Swung o m n by
 by_swing None new old by m n one more = omega arith
 by_swing (Some up) new old by m n one more = omega arith
 
-by_limit : (up : Bool) (m n by : ℕ) → m + cond up 0 by ≡ n + cond up by 0 → n ≤ 128 → m ≤ 128 → (n + cond up by 0 < 256) × (cond up 0 by ≤ n)
+by_limit : (up : Bool) (m n by : ℕ) → m + cond up 0 by ≡ n + cond up by 0 → n ≤ 128 → m ≤ 128 → Fits up n by
 by_limit true m n by moved few many = (omega arith, omega arith)
 by_limit false m n by moved few many = (omega arith, omega arith)
 
@@ -45,7 +47,7 @@ by_limit false m n by moved few many = (omega arith, omega arith)
 abbrev pub blank : Lead
 blank = record { from = 0; lowest = 0; highest = 0; to = 0; raise = 0; setting = None }
 
-module _ (h : Harness) where
+module _ (h : Wiring) where
   -- the wire that a walk over the leads is at
   module _ (xs : List Lead) (same : xs ≡ wires h) (i : ℕ) (l : i < length xs) where
     abbrev pub wire_at : Lead
@@ -59,7 +61,7 @@ module _ (h : Harness) where
 
   -- a place of a row below that has places
   pub place_within : (b q : ℕ) → q < beneath h b → (b < 16) × (q < 128)
-  place_within b q l = (grind (arith, nat_tests), grind (arith, nat_tests))
+  place_within b q l = let low = h.below.low b in (grind (arith, nat_tests), grind (arith, nat_tests))
 
   pub outlet-within : (w : Lead) (row key : ℕ) (t : ℕ × ℕ) → outlet (beneath h) (panel h) w row key ≡ Some t → (t.0 < 16) × (t.1 < 128)
   outlet-within w row key t e =
@@ -85,7 +87,7 @@ module _ (h : Harness) where
           by_hit (meets (outlet (beneath h) (panel h) w row key) b q) (meets o b q) (register h row key) on (key_new w) (key_old w) n _ other hit one (omega arith)
 
       -- there is room for a way more, or there is a way to take
-      pub key_room : meets o b q ≡ true → (n + cond on 1 0 < 256) × (cond on 0 1 ≤ n)
+      pub key_room : meets o b q ≡ true → Fits on n 1
       key_room hit =
           let most = walked-le key_new key_old (wires h) (through-one (beneath h) (panel h) (put (register h) row key on) b q) (through-one (beneath h) (panel h) (register h) b q) (i + 1) in
           by_room on (meets o b q) n _ hit step (omega (arith, most))
@@ -136,7 +138,7 @@ module _ (h : Harness) where
       wire_more before table after inv moved b q hb hq =
           by_steps up _ _ _ _ _ _ (inv b q hb hq) (moved b q hb hq) (omega (arith, total-more key (term b q), term_is b q))
 
-      pub wire_room : (before table : List ℕ) (b q : ℕ) → b < 16 → q < 128 → (eqb b w.to && is_at o q) ≡ true → Moves up before table (λ x y. total key (term x y)) → Room up before (λ x y. span (beneath h) (register h) x y w) → (at_place table b q + cond up 1 0 < 256) × (cond up 0 1 ≤ at_place table b q)
+      pub wire_room : (before table : List ℕ) (b q : ℕ) → b < 16 → q < 128 → (eqb b w.to && is_at o q) ≡ true → Moves up before table (λ x y. total key (term x y)) → Room up before (λ x y. span (beneath h) (register h) x y w) → Fits up (at_place table b q) 1
       unfolding span
       wire_room before table b q hb hq hit inv room =
           let part = total-part (key + 1) (w.highest + 1) (term b q) (omega arith) in
@@ -153,7 +155,7 @@ module _ (h : Harness) where
 
     module _ (room : length (wires h) ≤ 128) (was : panel h knob ≡ from) (turns : from ≢ to) (i n : ℕ) (w : Lead) (l : i < length (wires h)) (at : get_or (wires h) i w ≡ w) (inv : n ≡ walked knob_new knob_old (wires h) i) where
       -- the ways of the wire come, or go, or stay
-      swing-step : (o : Option Bool) → swing w knob from to ≡ o → Swung o (walked knob_new knob_old (wires h) (i + 1)) n (span (beneath h) (register h) b q w)
+      swing-step : (o : Option Swing) → swing w knob from to ≡ o → Swung o (walked knob_new knob_old (wires h) (i + 1)) n (span (beneath h) (register h) b q w)
       swing-step o is =
           let more = walked_more knob_new knob_old (wires h) i w l in
           let new_is = ap knob_new at in
@@ -163,11 +165,11 @@ module _ (h : Harness) where
       pub knob_stays : swing w knob from to ≡ None → n ≡ walked knob_new knob_old (wires h) (i + 1)
       knob_stays is = sym (swing-step None is)
 
-      module _ (up : Bool) (is : swing w knob from to ≡ Some up) where
-        pub knob_room : (n + cond up (span (beneath h) (register h) b q w) 0 < 256) × (cond up 0 (span (beneath h) (register h) b q w) ≤ n)
+      module _ (up : Swing) (is : swing w knob from to ≡ Some up) where
+        pub knob_room : Fits (starts up) n (span (beneath h) (register h) b q w)
         knob_room =
             let most : (j : ℕ) → walked knob_new knob_old (wires h) j ≤ length (wires h) = walked-le knob_new knob_old (wires h) (through-one (beneath h) (knob_to (panel h) knob to) (register h) b q) (through-one (beneath h) (panel h) (register h) b q) in
-            by_limit up _ _ _ (swing-step (Some up) is) (omega (arith, most i)) (omega (arith, most (i + 1)))
+            by_limit (starts up) _ _ _ (swing-step (Some up) is) (omega (arith, most i)) (omega (arith, most (i + 1)))
 
-        pub knob_more : (m : ℕ) → m + cond up 0 (span (beneath h) (register h) b q w) ≡ n + cond up (span (beneath h) (register h) b q w) 0 → m ≡ walked knob_new knob_old (wires h) (i + 1)
+        pub knob_more : (m : ℕ) → m + cond (starts up) 0 (span (beneath h) (register h) b q w) ≡ n + cond (starts up) (span (beneath h) (register h) b q w) 0 → m ≡ walked knob_new knob_old (wires h) (i + 1)
         knob_more m moved = let step : Swung (Some up) (walked knob_new knob_old (wires h) (i + 1)) n (span (beneath h) (register h) b q w) = swing-step (Some up) is in omega arith

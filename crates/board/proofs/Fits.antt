@@ -5,11 +5,11 @@ use Rattle.std.proofs.lemmas.Bool.Decides.{nat_tests}
 use Rattle.chest.specs.Meaning.{Meaning}
 use Rattle.board.specs.declared.wire.Lead.{Lead}
 use Rattle.fittings.specs.declared.Wire.{Wire}
-use Rattle.board.specs.declared.harness.Harness.{Harness}
+use Rattle.board.specs.declared.wiring.Wiring.{Wiring}
 use Rattle.board.specs.declared.fault.BoardFault.{BoardFault}
 use Rattle.board.specs.declared.fault.BoardFault.TheVariants.{Held, Full}
 use Rattle.board.specs.Wires.{some}
-use Rattle.board.specs.Harness.{own, register}
+use Rattle.board.specs.Wiring.{own, register}
 use Rattle.board.specs.Layout.{Layout, with_wire}
 use Rattle.board.specs.Board.{board_meaning, Stands}
 use Rattle.board.specs.Fitting.{checked, is_free, wire_checks, fit_answer, fit_after, lead_of}
@@ -50,7 +50,7 @@ refused_so (Ok x) a = tt
 refused_so (Err y) a = a
 
 -- a register that is free holds no place
-pub free_of : (h : Harness) → is_free (register h) ≡ true → (r p : ℕ) → register h r p ≡ false
+pub free_of : (h : Wiring) → is_free (register h) ≡ true → (r p : ℕ) → register h r p ≡ false
 free_of h free r p = by (register h r p) refl where
   by : (b : Bool) → register h r p ≡ b → b ≡ false
   by false e = refl

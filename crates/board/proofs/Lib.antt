@@ -3,8 +3,7 @@ pub mod Ways
 pub mod Counting
 pub mod Images
 pub mod Tables
-pub mod Walks
+pub mod Standing
 pub mod Boards
 pub mod Fits
 pub mod Shown
-pub mod Steps

@@ -4,18 +4,22 @@ use Rattle.std.proofs.lemmas.List.{get_or-set_same, get_or-set_other}
 use Rattle.std.proofs.lemmas.Bool.Decides.{nat_tests}
 use Rattle.chest.specs.Places.{Places, none, put}
 use Rattle.chest.specs.Meaning.{Panel, knob_to}
-use Rattle.board.specs.Wires.{Reaches, reach_of}
+use Rattle.chest.specs.declared.reaches.Reaches.{Reaches as Kept}
+use Rattle.chest.specs.Reaches.{reaches_of}
+use Rattle.board.specs.Wires.{Reaches}
 
 -- the places that a table of keys holds
 abbrev pub held : Reaches → List Bool → Places
 held reach keys r p = ltb p (reach r) && get_or keys (128 * r + p) false
 
-pub held-put : (reaches : List ℕ) (keys : List Bool) (row key at : ℕ) (on : Bool) → length keys ≡ 2048 → key < reach_of reaches row → at ≡ 128 * row + key → held (reach_of reaches) (set keys at on) ≡ put (held (reach_of reaches) keys) row key on
-held-put reaches keys row key at on long place is = λ i r p. one r p i where
-  one : (r p : ℕ) → held (reach_of reaches) (set keys at on) r p ≡ put (held (reach_of reaches) keys) row key on r p
+pub held-put : (t : Kept) (keys : List Bool) (row key at : ℕ) (on : Bool) → length keys ≡ 2048 → key < reaches_of t row → at ≡ 128 * row + key → held (reaches_of t) (set keys at on) ≡ put (held (reaches_of t) keys) row key on
+held-put t keys row key at on long place is = λ i r p. one r p i where
+  one : (r p : ℕ) → held (reaches_of t) (set keys at on) r p ≡ put (held (reaches_of t) keys) row key on r p
   one r p =
       let same = get_or-set_same keys at on false in
       let other = get_or-set_other keys at (128 * r + p) on false in
+      let here = t.low r in
+      let there = t.low row in
       grind (arith, nat_tests)
 
 -- the positions that a table of knobs holds

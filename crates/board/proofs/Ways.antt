@@ -9,7 +9,10 @@ use Rattle.chest.specs.Meaning.{Panel, knob_to}
 use Rattle.board.specs.declared.wire.Lead.{Lead}
 use Rattle.board.specs.declared.wire.Setting.{Setting}
 use Rattle.board.specs.Wires.{Reaches, live, stands, landing, is_at, leads, way, span, through}
-use Rattle.board.specs.Harness.{outlet, meets, swing, swing_of}
+use Rattle.board.specs.declared.swing.Swing.{Swing}
+use Rattle.board.specs.declared.swing.Swing.TheVariants.{Starts, Stops}
+use Rattle.board.specs.Swings.{starts}
+use Rattle.board.specs.Wiring.{outlet, meets, swing, swing_of}
 use Rattle.board.proofs.Sums.{total-change, total-once}
 
 -- a key lands at place q if key + shift is q, and q below the reach
@@ -98,12 +101,12 @@ pub way-high : (reach : Reaches) (s : Places) (w : Lead) (key b q : ℕ) → w.h
 way-high reach s w key b q h = grind (arith, nat_tests)
 
 -- a number that rose or fell by so much, or stayed
-abbrev pub Swung : Option Bool → ℕ → ℕ → ℕ → Type 0
+abbrev pub Swung : Option Swing → ℕ → ℕ → ℕ → Type 0
 Swung None new old by = new ≡ old
-Swung (Some up) new old by = new + cond up 0 by ≡ old + cond up by 0
+Swung (Some swing) new old by = new + cond (starts swing) 0 by ≡ old + cond (starts swing) by 0
 
 -- a knob that turns gives or takes all the ways of a wire that starts or stops to be live
-pub through-swing : (reach : Reaches) (panel : Panel) (s : Places) (knob from to b q : ℕ) (w : Lead) → panel knob ≡ from → from ≢ to → (o : Option Bool) → swing w knob from to ≡ o → Swung o (through reach (knob_to panel knob to) s b q w) (through reach panel s b q w) (span reach s b q w)
+pub through-swing : (reach : Reaches) (panel : Panel) (s : Places) (knob from to b q : ℕ) (w : Lead) → panel knob ≡ from → from ≢ to → (o : Option Swing) → swing w knob from to ≡ o → Swung o (through reach (knob_to panel knob to) s b q w) (through reach panel s b q w) (span reach s b q w)
 through-swing reach panel s knob from to b q w was ne o is =
     subst (λ x. Swung x (through reach (knob_to panel knob to) s b q w) (through reach panel s b q w) (span reach s b q w)) is (by w.setting (span reach s b q w))
   where
@@ -116,7 +119,7 @@ through-swing reach panel s knob from to b q w was ne o is =
       one : cond (stands (knob_to panel knob to) (Some t)) ways 0 + cond (t.knob == knob && t.position == from) ways 0 ≡ cond (stands panel (Some t)) ways 0 + cond (t.knob == knob && t.position == to) ways 0
       one = grind (arith, nat_tests, there)
 
-      turned : (k f g : Bool) (new old by : ℕ) → new + cond (k && f) by 0 ≡ old + cond (k && g) by 0 → (f ≡ true → g ≢ true) → Swung (cond k (cond f (Some false) (cond g (Some true) None)) None) new old by
+      turned : (k f g : Bool) (new old by : ℕ) → new + cond (k && f) by 0 ≡ old + cond (k && g) by 0 → (f ≡ true → g ≢ true) → Swung (cond k (cond f (Some Stops) (cond g (Some Starts) None)) None) new old by
       turned true true true new old d e apart = absurd (apart refl refl)
       turned true true false new old d e apart = e
       turned true false true new old d e apart = e

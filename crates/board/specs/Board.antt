@@ -18,10 +18,10 @@ pub record Stands (l : Layout) (m : Meaning) : Type 0 where
 
 module _ {C : Type 0} (meaning : C → Meaning) where
   abbrev pub meaning_of : RelayBoard C → Meaning
-  meaning_of s = board_meaning (layout s.wiring) (meaning s.below)
+  meaning_of s = board_meaning (layout s.wiring) (meaning s.below.chest)
 
   abbrev pub Settled : (C → Type 0) → RelayBoard C → Type 0
-  Settled settled s = settled s.below × Stands (layout s.wiring) (meaning s.below)
+  Settled settled s = settled s.below.chest × Stands (layout s.wiring) (meaning s.below.chest)
 
   -- from a settled board to a settled board that means this
   abbrev pub Becomes : (C → Type 0) → RelayBoard C → RelayBoard C → Meaning → Type 0

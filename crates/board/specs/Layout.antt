@@ -5,7 +5,7 @@ use Rattle.chest.specs.Meaning.{Panel, knob_to}
 use Rattle.board.specs.declared.wire.Lead.{Lead}
 use Rattle.board.specs.declared.wiring.Wiring.{Wiring}
 use Rattle.board.specs.Wires.{Reaches, image, ways_to}
-use Rattle.board.specs.Harness as harness
+use Rattle.board.specs.Wiring as wiring
 
 -- its own reaches and those of the chest below, its wires in the order of their fitting,
 -- the knobs' positions as it knows them, and the places of its register that are set
@@ -18,7 +18,7 @@ pub record Layout : Type 0 where
 
 abbrev pub layout : Wiring → Layout
 layout w =
-    record { reach = harness.own w.harness; below = harness.beneath w.harness; wires = harness.wires w.harness; panel = harness.panel w.harness; register = harness.register w.harness }
+    record { reach = wiring.own w; below = wiring.beneath w; wires = wiring.wires w; panel = wiring.panel w; register = wiring.register w }
 
 -- one key put on or off, one knob turned, one wire more
 abbrev pub with_key : Layout → ℕ → ℕ → Bool → Layout

@@ -1,11 +1,12 @@
 pub mod Faults
 pub mod Wires
-pub mod Harness
-pub mod Counts
+pub mod Swings
+pub mod Wiring
 pub mod Layout
+pub mod Counts
+pub mod Below
 pub mod Board
 pub mod Sending
-pub mod Handing
 pub mod Fitting
 pub mod Making
 pub mod Laws

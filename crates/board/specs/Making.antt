@@ -2,7 +2,8 @@
 use Rattle.std.specs.Prelude.{ℕ, cond, List, [], nat_lt, slice_index}
 use Rattle.chest.specs.Places.{none}
 use Rattle.chest.specs.Meaning.{Meaning, Panel}
-use Rattle.board.specs.Wires.{reach_of}
+use Rattle.chest.specs.Reaches.{reach_of}
+use Rattle.board.specs.Wires.{Reaches}
 use Rattle.board.specs.Layout.{Layout}
 use Rattle.board.specs.Board.{board_meaning}
 
@@ -11,9 +12,9 @@ abbrev pub panel_of : List ℕ → Panel
 panel_of positions k = cond (nat_lt k 64) (slice_index positions k) 0
 
 -- a board with no wire and no key
-abbrev pub bare : List ℕ → List ℕ → List ℕ → Layout
+abbrev pub bare : List ℕ → Reaches → List ℕ → Layout
 bare reaches below positions =
-    record { reach = reach_of reaches; below = reach_of below; wires = []; panel = panel_of positions; register = none }
+    record { reach = reach_of reaches; below = below; wires = []; panel = panel_of positions; register = none }
 
 -- what a new board is made of over a chest, and what it means: these reaches and nothing set,
 -- panel, pipes and strobes as below, and the rule below after the image of no wires

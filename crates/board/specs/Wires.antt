@@ -1,5 +1,5 @@
 -- Where wires lead, the image of a register, and the number of ways to a place below. Assumes nothing.
-use Rattle.std.specs.Prelude.{ℕ, zero, suc, ◌+◌, ◌-◌, min, Bool, true, false, cond, ◌&&◌, ◌||◌, List, [], ◌∷◌, Some, None, sum_by, Option, ◌==◌, nat_le, nat_lt, slice_index}
+use Rattle.std.specs.Prelude.{ℕ, zero, suc, ◌+◌, ◌-◌, Bool, true, false, cond, ◌&&◌, ◌||◌, List, [], ◌∷◌, Some, None, sum_by, Option, ◌==◌, nat_le, nat_lt}
 use Rattle.chest.specs.Places.{Places, total}
 use Rattle.chest.specs.Meaning.{Panel}
 use Rattle.board.specs.declared.wire.Lead.{Lead}
@@ -8,10 +8,6 @@ use Rattle.board.specs.declared.wire.Setting.{Setting}
 -- how many places each row has
 abbrev pub Reaches : Type 0
 Reaches = ℕ → ℕ
-
--- the reaches that a table of 16 rows holds: a number above 128 counts as 128
-abbrev pub reach_of : List ℕ → Reaches
-reach_of reaches r = cond (nat_lt r 16) (min (slice_index reaches r) 128) 0
 
 -- a wire is live while its knob stands at its position, and always where it has no knob
 abbrev pub stands : Panel → Option Setting → Bool

@@ -1,6 +1,6 @@
 // Fitting a wire to a board.
 ghost use Rattle.std.specs.Prelude.{◌≡◌, ◌<◌, OnErr, OnOk};
-ghost use Rattle.board.specs.Harness.{register};
+ghost use Rattle.board.specs.Wiring.{register};
 ghost use Rattle.board.specs.Wires.{some};
 ghost use Rattle.board.specs.Layout.{layout, with_wire};
 ghost use Rattle.board.specs.Board.{Becomes};
@@ -8,17 +8,15 @@ ghost use Rattle.board.specs.Fitting.{checked, is_free, wire_checks, setting_of,
 
 use crate::board::RelayBoard;
 use crate::fault::{BoardFault, RowRefused};
-use crate::harness::Harness;
 use crate::wire::{Lead, Setting, Wire};
+use crate::wiring::Wiring;
 use chest::chest::{Chest, PLACES, POSITIONS, ROWS};
-
-// How far a wire shifts, up or down.
-const SHIFTS: i16 = 96;
+use fittings::SHIFTS;
 
 // The knob of an offered wire that is always live.
 const ALWAYS: u16 = 64;
 
-impl Harness {
+impl Wiring {
     // Whether some place of a row is set.
     fn has_key(&self, row: usize) -> bool
         ensures { result ≡ some 128 (register self.now row) }
@@ -51,9 +49,10 @@ fn setting(wire: Wire) -> Option<Setting>
 impl<C: Chest> RelayBoard<C> {
     // How many places the to-row of a wire has below.
     fn to_reach(&self, wire: Wire) -> Result<usize, RowRefused>
-        ensures { result ≡ to_reach (C.Chest.meaning self.now.below) wire }
+        ensures { result ≡ to_reach (C.Chest.meaning self.now.below.chest) wire }
     {
         self.below
+            .chest
             .reach(usize::from(wire.to))
             .map_err(|fault| RowRefused {
                 from: wire.from,
@@ -64,17 +63,18 @@ impl<C: Chest> RelayBoard<C> {
 
     // The wire as the board keeps it, or why it takes none such.
     fn lead(&self, wire: Wire) -> Result<Lead, BoardFault>
-        ensures { result ≡ checked (wire_checks (layout self.now.wiring) (C.Chest.meaning self.now.below) wire) (lead_of wire) }
+        ensures { result ≡ checked (wire_checks (layout self.now.wiring) (C.Chest.meaning self.now.below.chest) wire) (lead_of wire) }
     {
         let Wire { from, to, knob, .. } = wire;
-        let reach = self.wiring.harness.reaches.of(usize::from(from));
+        let reach = self.wiring.reaches.of(usize::from(from));
         if wire.lowest > wire.highest || usize::from(wire.highest) >= reach {
             return Err(BoardFault::Keys { from, to });
         }
         if self.to_reach(wire)? == 0 {
             return Err(BoardFault::NoPlaces { from, to });
         }
-        if !(-SHIFTS..=SHIFTS).contains(&wire.shift) {
+        let most = i16::from(SHIFTS);
+        if !(-most..=most).contains(&wire.shift) {
             return Err(BoardFault::Shift { from, to });
         }
         if knob > ALWAYS {
@@ -88,22 +88,22 @@ impl<C: Chest> RelayBoard<C> {
             lowest: wire.lowest as u8,
             highest: wire.highest as u8,
             to: to as u8,
-            raise: (wire.shift + SHIFTS) as u8,
+            raise: (wire.shift + most) as u8,
             setting: setting(wire),
         })
     }
 
     // Fits a wire after those that are fitted, while no place of the register is set.
     pub fn fit(&mut self, wire: Wire) -> Result<(), BoardFault>
-        ensures answer { result ≡ fit_answer (layout self.old.wiring) (C.Chest.meaning self.old.below) wire }
+        ensures answer { result ≡ fit_answer (layout self.old.wiring) (C.Chest.meaning self.old.below.chest) wire }
         ensures same { OnErr result (self.new ≡ self.old) }
         ensures items { OnOk result ((self.new.below ≡ self.old.below) × (layout self.new.wiring ≡ with_wire (layout self.old.wiring) (lead_of wire))) }
-        ensures after { Becomes C.Chest.meaning C.Chest.settled self.old self.new (fit_after (layout self.old.wiring) (C.Chest.meaning self.old.below) wire) }
+        ensures after { Becomes C.Chest.meaning C.Chest.settled self.old self.new (fit_after (layout self.old.wiring) (C.Chest.meaning self.old.below.chest) wire) }
     {
-        if !self.wiring.harness.is_free() {
+        if !self.wiring.is_free() {
             return Err(BoardFault::Held);
         }
-        if self.wiring.harness.leads.is_full() {
+        if self.wiring.leads.is_full() {
             return Err(BoardFault::Full);
         }
         let lead = self.lead(wire)?;

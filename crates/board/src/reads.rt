@@ -1,16 +1,15 @@
 // What the tables of a board answer.
 ghost use Rattle.std.specs.Prelude.{◌≡◌, ◌<◌, ◌≢◌, if◌then◌else◌, None, IfSome};
 ghost use Rattle.std.specs.Option.{option_map};
-ghost use Rattle.board.specs.Wires.{reach_of, landing, live};
-ghost use Rattle.board.specs.Harness.{beneath, register, panel, outlet, swing, spot};
+ghost use Rattle.board.specs.Wires.{landing, live};
+ghost use Rattle.board.specs.Wiring.{beneath, register, panel, outlet, swing, spot};
 
-use crate::harness::{Harness, RowReaches};
+use crate::swing::Swing;
 use crate::wire::Lead;
+use crate::wiring::Wiring;
 use chest::chest::PLACES;
 use chest::place::Place;
-
-// By how much a shift is raised in a lead.
-pub(crate) const RAISED: usize = 96;
+use fittings::SHIFTS;
 
 // A knob that goes from one position to another.
 #[derive(Clone, Copy)]
@@ -24,18 +23,18 @@ pub(crate) struct Turn {
 }
 
 // The place that a key leads to, if a row of that reach has it.
-pub(crate) fn landing(raise: u8, reach: usize, key: usize) -> Option<usize>
+fn landing(raise: u8, reach: usize, key: usize) -> Option<usize>
     requires { key < 256 }
     ensures { result ≡ landing raise reach key }
 {
     (key + usize::from(raise))
-        .checked_sub(RAISED)
+        .checked_sub(usize::from(SHIFTS))
         .filter(|place| *place < reach)
 }
 
 impl Lead {
     // Whether the wire starts to be live, or stops, where a knob turns.
-    pub(crate) fn swing(self, turn: Turn) -> Option<bool>
+    pub(crate) fn swing(self, turn: Turn) -> Option<Swing>
         ensures { result ≡ swing self turn.knob turn.from turn.to }
     {
         let setting = self.setting?;
@@ -43,27 +42,17 @@ impl Lead {
         if usize::from(setting.knob) != turn.knob {
             None
         } else if position == turn.from {
-            Some(false)
+            Some(Swing::Stops)
         } else if position == turn.to {
-            Some(true)
+            Some(Swing::Starts)
         } else {
             None
         }
     }
 }
 
-impl RowReaches {
-    // The reach of a row: a number above 128 counts as 128, and no row is above the 15th.
-    pub(crate) fn of(&self, row: usize) -> usize
-        ensures { result ≡ reach_of self.now.table row }
-    {
-        self.table
-            .get(row)
-            .map_or(0, |reach| usize::from(*reach).min(PLACES))
-    }
-}
-
-impl Harness {
+impl Wiring {
+    // Whether a key is set. The key may lie past every row, as those that a wire names may.
     pub(crate) fn is_set(&self, row: usize, key: usize) -> bool
         ensures { result ≡ register self.now row key }
     {
@@ -82,22 +71,27 @@ impl Harness {
     fn is_live(&self, w: Lead) -> bool
         ensures { result ≡ live (panel self.now) w }
     {
-        match w.setting {
-            None => true,
-            Some(setting) => self.position(usize::from(setting.knob))
-                == usize::from(setting.position),
-        }
+        w.setting.is_none_or(|s| self.position(usize::from(s.knob)) == usize::from(s.position))
     }
 
-    // Where a key of a row leads through a wire.
-    pub(crate) fn outlet(&self, w: Lead, row: usize, key: usize) -> Option<Place>
-        ensures { option_map spot result ≡ outlet (beneath self.now) (panel self.now) w row key }
+    // Where a key would land through a wire.
+    fn landing(&self, w: Lead, key: usize) -> Option<Place>
+        requires { key < 256 }
+        ensures place { option_map (λ at. at.place) result ≡ landing w.raise (beneath self.now w.to) key }
+        ensures row { IfSome result (λ at. at.row ≡ w.to) }
     {
-        let lies = usize::from(w.lowest) <= key && key <= usize::from(w.highest);
-        if self.is_live(w) && row == usize::from(w.from) && lies {
-            let to = usize::from(w.to);
-            let place = landing(w.raise, self.below.of(to), key)?;
-            Some(Place { row: to, place })
+        let to = usize::from(w.to);
+        let place = landing(w.raise, self.below.of(to), key)?;
+        Some(Place { row: to, place })
+    }
+
+    // Where a key leads through a wire.
+    pub(crate) fn outlet(&self, w: Lead, key: Place) -> Option<Place>
+        ensures { option_map spot result ≡ outlet (beneath self.now) (panel self.now) w key.row key.place }
+    {
+        let lies = usize::from(w.lowest) <= key.place && key.place <= usize::from(w.highest);
+        if self.is_live(w) && key.row == usize::from(w.from) && lies {
+            self.landing(w, key.place)
         } else {
             None
         }
@@ -109,11 +103,10 @@ impl Harness {
         ensures place { option_map (λ at. at.place) result ≡ (if register self.now w.from key then landing w.raise (beneath self.now w.to) key else None) }
         ensures row { IfSome result (λ at. at.row ≡ w.to) }
     {
-        if !self.is_set(usize::from(w.from), key) {
-            return None;
+        if self.is_set(usize::from(w.from), key) {
+            self.landing(w, key)
+        } else {
+            None
         }
-        let to = usize::from(w.to);
-        let place = landing(w.raise, self.below.of(to), key)?;
-        Some(Place { row: to, place })
     }
 }

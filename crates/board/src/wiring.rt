@@ -1,16 +1,26 @@
-// A board's wires with the number of ways to each place below.
+// The wires of a board, and the keys and knobs that drive them.
 ghost use Rattle.std.specs.Prelude.{◌≡◌, length};
-ghost use Rattle.board.specs.Harness.{beneath, register, panel, wires};
-ghost use Rattle.board.specs.Counts.{Exact};
 
-use crate::harness::{ALL_PLACES, Harness};
+use crate::wire::Lead;
+use arrayvec::ArrayVec;
+use chest::chest::KNOBS;
+use chest::reaches::Reaches;
 
-// Each number is exact: one that wraps or lags behind cannot be made.
+// How many wires a board takes.
+pub(crate) const WIRES: usize = 128;
+
+// How many places 16 rows of 128 have: place p of row r has the number 128 × r + p.
+pub(crate) const ALL_PLACES: usize = 2048;
+
+// `reaches` are the board's own and `below` those of the chest below, `keys` the places of its register,
+// `positions` the knobs' as the chest below has them, and `leads` the wires in the order of their fitting.
 #[derive(Drop)]
 pub(crate) struct Wiring {
-    pub harness: Harness,
-    pub ways: [u8; ALL_PLACES],
-    ghost manual: { length harness.keys ≡ 2048 },
-    ghost knobs: { length harness.positions ≡ 64 },
-    ghost exact: { Exact ways (beneath harness) (wires harness) (panel harness) (register harness) },
+    pub reaches: Reaches,
+    pub below: Reaches,
+    pub keys: [bool; ALL_PLACES],
+    pub positions: [u8; KNOBS],
+    pub leads: ArrayVec<Lead, WIRES>,
+    ghost manual: { length keys ≡ 2048 },
+    ghost knobs: { length positions ≡ 64 },
 }

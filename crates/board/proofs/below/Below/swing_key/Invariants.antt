@@ -1,0 +1,15 @@
+-- The wires so far count by the register after.
+use Rattle.std.proofs.Common.{◌≡◌, ℕ, ◌<◌}
+use Rattle.chest.specs.Places.{put}
+use Rattle.board.specs.Wires.{through}
+use Rattle.board.specs.Wiring.{beneath, register, panel, wires}
+use Rattle.board.specs.Swings.{starts}
+use Rattle.board.specs.Counts.{at_place}
+use Rattle.board.specs.Below.{Keeps}
+use Rattle.board.proofs.Sums.{walked}
+use Rattle.board.proofs.below.Below.swing_key.Given as goal
+
+abbrev pub invariant-loop-w : goal.invariant-loop-w
+invariant-loop-w g l =
+    ((b q : ℕ) → b < 16 → q < 128 → at_place l.self.ways b q ≡ walked (through (beneath l.wiring) (panel l.wiring) (put (register l.wiring) l.key.row l.key.place (starts l.swing)) b q) (through (beneath l.wiring) (panel l.wiring) (register l.wiring) b q) (wires l.wiring) l.w-index)
+    × Keeps g.C.Chest.meaning g.C.Chest.settled (beneath l.wiring) l.initial.self l.self

@@ -1,0 +1,15 @@
+-- The chest below a board as the numbers of ways have it. Assumes nothing.
+use Rattle.std.specs.Prelude.{◌≡◌, ℕ, ◌&&◌, List, nat_lt}
+use Rattle.chest.specs.Places.{Places}
+use Rattle.chest.specs.Meaning.{Meaning, with_register}
+use Rattle.board.specs.declared.below.Below.{Below}
+use Rattle.board.specs.Wires.{Reaches}
+use Rattle.board.specs.Counts.{at_place}
+
+-- the places to which there is a way
+abbrev pub standing : List ℕ → Places
+standing ways b q = nat_lt b 16 && (nat_lt q 128 && nat_lt 0 (at_place ways b q))
+
+-- a chest that stood so, with these reaches, stands so again, and nothing else of it changed
+pub record Keeps {C : Type 0} (meaning : C → Meaning) (settled : C → Type 0) (reach : Reaches) (before after : Below C) : Type 0 where
+  pub stands : settled before.chest → (meaning before.chest).reach ≡ reach → (meaning before.chest).register ≡ standing before.ways → settled after.chest × (meaning after.chest ≡ with_register (meaning before.chest) (standing after.ways))

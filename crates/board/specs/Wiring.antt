@@ -1,0 +1,54 @@
+-- What the tables of a board hold. Assumes nothing.
+use Rattle.std.specs.Prelude.{ℕ, ◌+◌, ◌*◌, Bool, false, cond, ◌&&◌, List, Some, None, Option, ◌==◌, nat_le, nat_lt, slice_index, slice_index_or}
+use Rattle.std.specs.Option.{option_map}
+use Rattle.chest.specs.Places.{Places}
+use Rattle.chest.specs.Meaning.{Panel}
+use Rattle.chest.specs.declared.place.Place.{Place}
+use Rattle.board.specs.declared.wire.Lead.{Lead}
+use Rattle.board.specs.declared.wire.Setting.{Setting}
+use Rattle.board.specs.declared.wiring.Wiring.{Wiring}
+use Rattle.chest.specs.Reaches.{reaches_of}
+use Rattle.board.specs.declared.swing.Swing.{Swing}
+use Rattle.board.specs.declared.swing.Swing.TheVariants.{Starts, Stops}
+use Rattle.board.specs.Wires.{Reaches, live, landing}
+
+-- the board's own reaches, and those of the chest below
+abbrev pub own : Wiring → Reaches
+own h = reaches_of h.reaches
+
+abbrev pub beneath : Wiring → Reaches
+beneath h = reaches_of h.below
+
+-- the places of the register that are set
+abbrev pub register : Wiring → Places
+register h r p = nat_lt p (own h r) && slice_index_or h.keys (128 * r + p) false
+
+abbrev pub panel : Wiring → Panel
+panel h k = cond (nat_lt k 64) (slice_index h.positions k) 0
+
+-- the wires that are fitted, in their order
+abbrev pub wires : Wiring → List Lead
+wires h = h.leads.items
+
+-- the place below to which a wire leads from a key of a row, by row and place, if it is live and leads from there
+abbrev pub outlet : Reaches → Panel → Lead → ℕ → ℕ → Option (ℕ × ℕ)
+outlet reach panel w row key =
+    cond (live panel w && (row == w.from && (nat_le w.lowest key && nat_le key w.highest))) (option_map (λ q. (w.to, q)) (landing w.raise (reach w.to) key)) None
+
+-- a place by its row and number
+abbrev pub spot : Place → ℕ × ℕ
+spot at = (at.row, at.place)
+
+-- whether that is place q of row b
+abbrev pub meets : Option (ℕ × ℕ) → ℕ → ℕ → Bool
+meets None b q = false
+meets (Some t) b q = b == t.0 && q == t.1
+
+-- what becomes of a wire where a knob goes from one position to another: it starts to be live, or stops, or neither
+abbrev pub swing_of : Option Setting → ℕ → ℕ → ℕ → Option Swing
+swing_of None knob from to = None
+swing_of (Some s) knob from to =
+    cond (s.knob == knob) (cond (s.position == from) (Some Stops) (cond (s.position == to) (Some Starts) None)) None
+
+abbrev pub swing : Lead → ℕ → ℕ → ℕ → Option Swing
+swing w knob from to = swing_of w.setting knob from to
