@@ -23,17 +23,17 @@ enum Act {
     Knob(usize, usize),
 }
 
-pub fn press(key: usize, changes: u32) -> Step {
+fn press(key: usize, changes: u32) -> Step {
     let act = Act::Key(key, true);
     Step { act, changes }
 }
 
-pub fn lift(key: usize, changes: u32) -> Step {
+fn lift(key: usize, changes: u32) -> Step {
     let act = Act::Key(key, false);
     Step { act, changes }
 }
 
-pub fn turn(knob: usize, position: usize, changes: u32) -> Step {
+fn turn(knob: usize, position: usize, changes: u32) -> Step {
     let act = Act::Knob(knob, position);
     Step { act, changes }
 }
@@ -57,7 +57,7 @@ fn row(reach: u8) -> [u8; 16] {
 }
 
 // A wire from the 61 keys of row 0 to row 0.
-pub fn stop(shift: i16, knob: u16, position: u16) -> Wire {
+fn stop(shift: i16, knob: u16, position: u16) -> Wire {
     Wire {
         from: 0,
         lowest: 0,
@@ -118,14 +118,14 @@ fn stacked(wires: &[Wire], steps: &[Step], pipes: &[usize]) -> bool {
 }
 
 // Over a magnet chest, over a board over a magnet chest, and over a board over a MIDI chest.
-pub fn both_ways(wires: &[Wire], steps: &[Step], pipes: &[usize]) -> bool {
+fn both_ways(wires: &[Wire], steps: &[Step], pipes: &[usize]) -> bool {
     let mut sending = double(MidiChest::new(row(73)), wires);
     alone(wires, steps, pipes) && stacked(wires, steps, pipes) && plays(&mut sending, steps)
 }
 
 // Whether a board with these wires that has played the steps refuses each wire that it is then offered
 // with the fault beside it, or takes it where there is none.
-pub fn answers(wires: &[Wire], steps: &[Step], offers: &[(Wire, Option<u8>)]) -> bool {
+fn answers(wires: &[Wire], steps: &[Step], offers: &[(Wire, Option<u8>)]) -> bool {
     let mut board = single(rank(), wires);
     plays(&mut board, steps)
         && offers

@@ -17,7 +17,7 @@ invariant_of-self g c =
     let self = c.args.self.now in
     let l = layout self.wiring in
     let free = free_of self.wiring (sym c.is_free.ensures ∙ c.if-not-is_free.false) in
-    record { exact = subst (Exact self.below.ways) (sym c.add.ensures) (λ b q within. self.exact b q within ∙ sym (ways_push_free l.below l.wires c.in_ok-lead.lead l.panel l.register b q free)) }
+    record { exact = subst (Exact self.below.ways) (sym c.add.ensures) (λ b q within. self.exact b q within ∙ sym (ways_push_free l.below l.wires _ l.panel l.register b q free)) }
 
 pub returns : goal.returns
 returns g c =
