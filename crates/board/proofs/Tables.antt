@@ -1,7 +1,8 @@
 -- What a write to a table of a board makes of what it holds. Assumes nothing.
-use Rattle.std.proofs.Common.{◌≡◌, ℕ, zero, suc, ◌+◌, ◌*◌, ◌<◌, Bool, true, false, cond, ◌&&◌, ltb, List, length, get_or, set, replicate, refl, ap, ◌∙◌, arith}
+use Rattle.std.proofs.Common.{◌≡◌, ℕ, ◌+◌, ◌*◌, ◌<◌, Bool, true, false, cond, ◌&&◌, ltb, List, length, get_or, set, replicate, refl, ap, ◌∙◌, arith}
 use Rattle.std.proofs.lemmas.List.{get_or-set_same, get_or-set_other}
 use Rattle.std.proofs.lemmas.Bool.Decides.{nat_tests}
+use Rattle.fittings.proofs.Filled.{filled}
 use Rattle.chest.specs.Places.{Places, none, put}
 use Rattle.chest.specs.Meaning.{Panel, knob_to}
 use Rattle.chest.specs.declared.reaches.Reaches.{Reaches as Kept}
@@ -34,14 +35,8 @@ standing-turned positions knob to long few = λ i k. one k i where
       let other = get_or-set_other positions knob k to 0 in
       grind (arith, nat_tests)
 
--- a table of one value
-pub same_everywhere : {X : Type 0} (n i : ℕ) (x : X) → get_or (replicate n x) i x ≡ x
-same_everywhere zero i x = refl
-same_everywhere (suc n) zero x = refl
-same_everywhere (suc n) (suc i) x = same_everywhere n i x
-
 pub held_none : (reach : Reaches) → held reach (replicate 2048 false) ≡ none
-held_none reach = λ i r p. (ap (λ x. ltb p (reach r) && x) (same_everywhere 2048 (128 * r + p) false) ∙ by (ltb p (reach r))) i where
+held_none reach = λ i r p. (ap (λ x. ltb p (reach r) && x) (filled 2048 (128 * r + p) false) ∙ by (ltb p (reach r))) i where
   by : (x : Bool) → (x && false) ≡ false
   by true = refl
   by false = refl

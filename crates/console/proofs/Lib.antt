@@ -1,4 +1,3 @@
-mod Blank
 mod Homes
 mod Steps
 mod Keyed

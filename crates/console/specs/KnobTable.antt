@@ -1,11 +1,12 @@
 -- Tables of knobs. Assumes nothing.
-use Rattle.std.specs.Prelude.{ℕ, cond, None, Option, nat_lt, slice_index_or}
+use Rattle.std.specs.Prelude.{ℕ, cond, None, Option, nat_lt}
 use Rattle.std.specs.Option.{option_map, unwrap_or}
 use Rattle.fittings.specs.declared.Knob.{Knob}
+use Rattle.fittings.specs.Tables.{place_at}
 use Rattle.console.specs.declared.knobs.KnobTable.{KnobTable}
 
 abbrev pub knob_at : KnobTable → ℕ → Option Knob
-knob_at t k = cond (nat_lt k 64) (slice_index_or t.knobs k None) None
+knob_at t k = cond (nat_lt k 64) (place_at t.knobs k) None
 
 -- the steps of a knob, none where it is undefined
 abbrev pub steps_of : KnobTable → ℕ → Option ℕ

@@ -1,12 +1,13 @@
 -- Tables of pistons: their scopes, and what was captured on them. Assumes nothing.
-use Rattle.std.specs.Prelude.{ℕ, Bool, false, cond, ◌&&◌, List, Some, None, Option, nat_le, nat_lt, slice_index_or}
+use Rattle.std.specs.Prelude.{ℕ, Bool, false, cond, ◌&&◌, List, Some, None, Option, nat_le, nat_lt}
 use Rattle.std.specs.Option.{option_map, option_and_then}
 use Rattle.fittings.specs.declared.Scope.{Scope}
+use Rattle.fittings.specs.Tables.{place_at}
 use Rattle.console.specs.declared.pistons.Piston.{Piston}
 use Rattle.console.specs.declared.pistons.PistonTable.{PistonTable}
 
 abbrev pub piston_at : PistonTable → ℕ → Option Piston
-piston_at t q = cond (nat_lt q 40) (slice_index_or t.pistons q None) None
+piston_at t q = cond (nat_lt q 40) (place_at t.pistons q) None
 
 -- the knobs that a piston takes, none where it is undefined
 abbrev pub scope_of : PistonTable → ℕ → Option Scope

@@ -13,7 +13,7 @@ use crate::walks::{home_knobs, recall_knobs, reset_knobs};
 use chest::chest::{Chest, ROWS};
 use chest::place::Place;
 use chest::sender::Sender;
-use chest::walks::{clear, positions, show_row};
+use chest::walks::{Rule, clear, positions, show_row};
 
 #[derive(Drop)]
 pub struct Console<C: Chest> {
@@ -106,7 +106,7 @@ impl<C: Chest> Console<C> {
             return Err(PlayFault::KeyUp { division, key });
         }
         self.keys.lift(at);
-        let sounds = self.keys.sounds(at);
+        let sounds = self.keys.sets(at);
         let _ = self.chest.set(division, key, sounds);
         Ok(self.chest.strobe())
     }
@@ -120,11 +120,12 @@ impl<C: Chest> Console<C> {
             return Err(PlayFault::Division { division });
         }
         self.keys.switch_sustain(division, on);
-        show_row(&mut self.chest, division, |at| self.keys.sounds(at));
+        show_row(&mut self.chest, division, &self.keys);
         Ok(self.chest.strobe())
     }
 
-    // Ends a division's sustain and lifts all its keys.
+    // Ends a division's sustain and lifts all its keys. Its last two lines are those of `sustain`: a function for them
+    // would need a clause for each part of the console.
     pub fn clear(&mut self, division: usize) -> Result<u32, PlayFault>
         ensures follows { Follows C.Chest.meaning C.Chest.settled self.old (Call.Clear division) result self.new }
         ensures same { OnErr result (self.new ≡ self.old) }
@@ -133,7 +134,7 @@ impl<C: Chest> Console<C> {
             return Err(PlayFault::Division { division });
         }
         self.keys.clear(division);
-        show_row(&mut self.chest, division, |at| self.keys.sounds(at));
+        show_row(&mut self.chest, division, &self.keys);
         Ok(self.chest.strobe())
     }
 

@@ -5,6 +5,7 @@ ghost use Rattle.console.specs.KeyTable.{key_at, keys_of};
 
 use chest::chest::{PLACES, ROWS};
 use chest::place::Place;
+use chest::walks::Rule;
 
 // The keys that are down, and those that the sustain holds while it is on.
 #[derive(Clone, Copy)]
@@ -46,17 +47,6 @@ impl KeyTable {
         self.divisions[at.row].down[at.place]
     }
 
-    pub(crate) fn sounds(&self, at: Place) -> bool
-        ensures { result ≡ sounding (keys_of self.now) at.row at.place }
-    {
-        let division = &self.divisions[at.row];
-        let sustained = match &division.sustained {
-            Some(held) => held[at.place],
-            None => false,
-        };
-        division.down[at.place] || sustained
-    }
-
     pub(crate) fn press(&mut self, at: Place)
         ensures { keys_of self.new ≡ pressed (keys_of self.old) at.row at.place }
     {
@@ -87,5 +77,19 @@ impl KeyTable {
         ensures { keys_of self.new ≡ cleared (keys_of self.old) division }
     {
         self.divisions[division] = Division::silent();
+    }
+}
+
+// What sounds is set in the chest.
+impl Rule for KeyTable {
+    ghost set = { λ keys. sounding (keys_of keys) };
+
+    fn sets(&self, at: Place) -> bool {
+        let division = &self.divisions[at.row];
+        let sustained = division
+            .sustained
+            .as_ref()
+            .is_some_and(|held| held[at.place]);
+        division.down[at.place] || sustained
     }
 }

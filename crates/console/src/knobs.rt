@@ -3,7 +3,7 @@ ghost use Rattle.std.specs.Prelude.{◌≡◌, ℕ, ◌<◌, ◌≤◌, true, fa
 ghost use Rattle.console.specs.Knobs.{sound, undefined_or_sound};
 
 use chest::chest::KNOBS;
-use fittings::Knob;
+use fittings::{Knob, silent, told};
 
 // Each knob is undefined, or has 2 to 16 steps and a home below them.
 #[derive(Clone, Copy)]
@@ -20,20 +20,19 @@ impl KnobTable {
         ensures steps { (k : ℕ) → steps_of result k ≡ None }
         ensures homes { (k : ℕ) → home_of result k ≡ 0 }
     {
-        KnobTable {
-            knobs: [None; KNOBS],
-        }
+        KnobTable { knobs: silent() }
     }
 
-    // The table with one knob defined, or nothing where the knob is 64 or more or is not sound.
-    pub fn with_knob(self, knob: usize, steps: u8, home: u8) -> Option<KnobTable>
-        ensures { MatchOption result (nat_lt knob 64 && sound steps home ≡ false) (λ t. (nat_lt knob 64 && sound steps home ≡ true) × (steps_of t knob ≡ Some steps) × (home_of t knob ≡ home) × ((k : ℕ) → k ≢ knob → (steps_of t k ≡ steps_of self k) × (home_of t k ≡ home_of self k))) }
+    // The table with one knob defined, or nothing where its number is 64 or more or it is not sound.
+    pub fn with_knob(self, at: usize, knob: Knob) -> Option<KnobTable>
+        ensures { MatchOption result (nat_lt at 64 && sound knob.steps knob.home ≡ false) (λ t. (nat_lt at 64 && sound knob.steps knob.home ≡ true) × (steps_of t at ≡ Some knob.steps) × (home_of t at ≡ knob.home) × ((k : ℕ) → k ≢ at → (steps_of t k ≡ steps_of self k) × (home_of t k ≡ home_of self k))) }
     {
-        if knob >= KNOBS || steps < 2 || steps > 16 || home >= steps {
+        let sound = (2..=16).contains(&knob.steps) && knob.home < knob.steps;
+        if at >= KNOBS || !sound {
             return None;
         }
         let KnobTable { mut knobs } = self;
-        knobs[knob] = Some(Knob { steps, home });
+        knobs[at] = Some(knob);
         Some(KnobTable { knobs })
     }
 
@@ -43,7 +42,7 @@ impl KnobTable {
         ensures sound { undefined_or_sound result ≡ true }
         ensures bound { IfSome result (λ k. knob < 64) }
     {
-        self.knobs.get(knob).copied().flatten()
+        told(&self.knobs, knob)
     }
 
     // The steps of a knob that is defined.

@@ -4,9 +4,8 @@ ghost use Rattle.std.specs.Option.{option_map};
 ghost use Rattle.console.specs.Pistons.{piston_at, scope_of, frame_of, in_range};
 
 use chest::chest::KNOBS;
-pub use fittings::Scope;
-
-pub const PISTONS: usize = 40;
+pub use fittings::{PISTONS, Scope};
+use fittings::{silent, told};
 
 // The knobs that it takes, and the positions that were captured last.
 #[derive(Clone, Copy)]
@@ -25,23 +24,19 @@ impl PistonTable {
     pub fn new() -> PistonTable
         ensures { (q : ℕ) → scope_of result q ≡ None }
     {
-        PistonTable {
-            pistons: [None; PISTONS],
-        }
+        PistonTable { pistons: silent() }
     }
 
     // The table with one piston defined and not captured, or nothing where it or its scope is out of range.
-    pub fn with_piston(self, piston: usize, lowest: u8, highest: u8) -> Option<PistonTable>
-        ensures { MatchOption result (in_range piston lowest highest ≡ false) (λ t. (in_range piston lowest highest ≡ true) × (scope_of t piston ≡ Some (record { lowest = lowest; highest = highest })) × (frame_of t piston ≡ None) × ((q : ℕ) → (q ≢ piston) → (scope_of t q ≡ scope_of self q) × (frame_of t q ≡ frame_of self q))) }
+    pub fn with_piston(self, piston: usize, scope: Scope) -> Option<PistonTable>
+        ensures { MatchOption result (in_range piston scope.lowest scope.highest ≡ false) (λ t. (in_range piston scope.lowest scope.highest ≡ true) × (scope_of t piston ≡ Some scope) × (frame_of t piston ≡ None) × ((q : ℕ) → (q ≢ piston) → (scope_of t q ≡ scope_of self q) × (frame_of t q ≡ frame_of self q))) }
     {
+        let Scope { lowest, highest } = scope;
         if piston >= PISTONS || lowest > highest || usize::from(highest) >= KNOBS {
             return None;
         }
         let PistonTable { mut pistons } = self;
-        pistons[piston] = Some(Piston {
-            scope: Scope { lowest, highest },
-            frame: None,
-        });
+        pistons[piston] = Some(Piston { scope, frame: None });
         Some(PistonTable { pistons })
     }
 
@@ -49,7 +44,7 @@ impl PistonTable {
     fn piston(&self, piston: usize) -> Option<Piston>
         ensures { result ≡ piston_at self.now piston }
     {
-        self.pistons.get(piston).copied().flatten()
+        told(&self.pistons, piston)
     }
 
     // The knobs that a defined piston takes.

@@ -10,7 +10,7 @@ pub fn send_from_foot(
     console: &mut Console<RelayBoard<RelayBoard<MidiChest>>>,
     buffer: &mut [u8],
 ) -> usize
-    ensures { DrainLaw (midi_meaning console.old.chest.below.below).speaking (midi_sent console.old.chest.below.below) (midi_sent console.new.chest.below.below) (length buffer.old) (take result buffer.new) }
+    ensures { DrainLaw (midi_meaning console.old.chest.below.chest.below.chest).speaking (midi_sent console.old.chest.below.chest.below.chest) (midi_sent console.new.chest.below.chest.below.chest) (length buffer.old) (take result buffer.new) }
 {
     console.send(buffer)
 }

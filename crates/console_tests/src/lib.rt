@@ -13,6 +13,7 @@ use console::console::Console;
 use console::fault::PlayFault;
 use console::knobs::KnobTable;
 use console::pistons::PistonTable;
+use fittings::{Knob, Scope};
 
 pub mod foot;
 
@@ -33,6 +34,13 @@ fn fit_all<C: Chest>(board: &mut RelayBoard<C>, wires: &[Wire]) -> Result<(), Bo
     Ok(())
 }
 
+// A table with one row.
+fn row(reach: u8) -> [u8; 16] {
+    let mut reaches = [0; 16];
+    reaches[0] = reach;
+    reaches
+}
+
 // A wire from the first keys of division 0 to row 0.
 fn wire(keys: u16, shift: i16, knob: u16) -> Wire {
     Wire {
@@ -49,17 +57,41 @@ fn wire(keys: u16, shift: i16, knob: u16) -> Wire {
 // Knob 0 of two steps at home 0, knob 1 of four at home 2, knob 63 of sixteen at home 15.
 fn knobs() -> Option<KnobTable> {
     KnobTable::new()
-        .with_knob(0, 2, 0)?
-        .with_knob(1, 4, 2)?
-        .with_knob(63, 16, 15)
+        .with_knob(0, Knob { steps: 2, home: 0 })?
+        .with_knob(1, Knob { steps: 4, home: 2 })?
+        .with_knob(
+            63,
+            Knob {
+                steps: 16,
+                home: 15,
+            },
+        )
 }
 
 // Piston 0 takes knobs 0 to 1, piston 1 knobs that are undefined, piston 39 all.
 fn pistons() -> Option<PistonTable> {
     PistonTable::new()
-        .with_piston(0, 0, 1)?
-        .with_piston(1, 10, 20)?
-        .with_piston(39, 0, 63)
+        .with_piston(
+            0,
+            Scope {
+                lowest: 0,
+                highest: 1,
+            },
+        )?
+        .with_piston(
+            1,
+            Scope {
+                lowest: 10,
+                highest: 20,
+            },
+        )?
+        .with_piston(
+            39,
+            Scope {
+                lowest: 0,
+                highest: 63,
+            },
+        )
 }
 
 #[cfg(test)]
@@ -75,8 +107,7 @@ mod tests {
 
     // 61 keys on division 0, 32 on division 1, 128 on division 15.
     fn plain() -> Result<Console<MagnetChest>, Fail> {
-        let mut reaches = [0u8; 16];
-        reaches[0] = 61;
+        let mut reaches = row(61);
         reaches[1] = 32;
         reaches[15] = 128;
         over(MagnetChest::new(reaches))
@@ -193,11 +224,7 @@ mod tests {
 
     // 61 keys over one rank of 85 pipes, on a stop board with unison stops at knobs 0 and 1 and an octave stop at knob 63.
     fn stop_board() -> Result<RelayBoard<MagnetChest>, Fail> {
-        let mut keys = [0u8; 16];
-        keys[0] = 61;
-        let mut pipes = [0u8; 16];
-        pipes[0] = 85;
-        let mut board = RelayBoard::new(MagnetChest::new(pipes), keys);
+        let mut board = RelayBoard::new(MagnetChest::new(row(85)), row(61));
         let stops = [wire(61, 0, 0), wire(61, 0, 1), wire(61, 12, 63)];
         fit_all(&mut board, &stops).map_err(|_| "a stop is refused")?;
         Ok(board)
@@ -232,9 +259,7 @@ mod tests {
     // An octave coupler above the stops: pipes are reached by several ways, and each stops with its last.
     #[test]
     fn couplers_over_stops(rt: HostRuntime) -> Result<(), Fail> {
-        let mut keys = [0u8; 16];
-        keys[0] = 61;
-        let mut couplers = RelayBoard::new(stop_board()?, keys);
+        let mut couplers = RelayBoard::new(stop_board()?, row(61));
         let always = Wire {
             knob: 64,
             ..wire(61, 0, 0)
@@ -258,11 +283,9 @@ mod tests {
 
     // A coupler at unison, always on, over a stop at knob 0 that takes key 0 to pipe 12 of a MIDI chest.
     fn sending() -> Result<Console<RelayBoard<RelayBoard<MidiChest>>>, Fail> {
-        let mut reaches = [0u8; 16];
-        reaches[0] = 73;
-        let mut stops = RelayBoard::new(MidiChest::new(reaches), reaches);
+        let mut stops = RelayBoard::new(MidiChest::new(row(73)), row(73));
         fit_all(&mut stops, &[wire(61, 12, 0)]).map_err(|_| "a stop is refused")?;
-        let mut couplers = RelayBoard::new(stops, reaches);
+        let mut couplers = RelayBoard::new(stops, row(73));
         let always = Wire {
             knob: 64,
             ..wire(61, 0, 0)
@@ -271,7 +294,7 @@ mod tests {
         over(couplers)
     }
 
-    // The bytes of one sending into a buffer of four.
+    // One sending into a buffer of four: how many bytes it wrote, and the whole buffer, since what lies past them counts too.
     fn sent(console: &mut Console<RelayBoard<RelayBoard<MidiChest>>>) -> (usize, [u8; 4]) {
         let mut buffer = [0; 4];
         let count = console.send(&mut buffer);

@@ -1,16 +1,16 @@
 -- Below is cleared, and the board knows its reaches and positions.
 use Rattle.std.proofs.Common.{ℕ, ◌+◌, ◌*◌, ◌<◌, [], replicate, sym, ◌∙◌, subst}
+use Rattle.fittings.proofs.Filled.{filled}
 use Rattle.chest.specs.Places.{none}
 use Rattle.chest.specs.Reaches.{reach_of, reaches_of}
 use Rattle.board.specs.Layout.{layout}
 use Rattle.board.specs.Counts.{Exact}
-use Rattle.board.proofs.Tables.{same_everywhere}
 use Rattle.board.proofs.Boards.{new-board, positions_held}
 use Rattle.board.proofs.board.RelayBoard.new.Goals as goal
 
 pub invariant_of-result : goal.invariant_of-result
 invariant_of-result g c =
-    record { exact = subst (Exact (replicate 2048 0)) (sym c.bare-wiring.ensures) (λ (b q : ℕ) (within : (b < 16) × (q < 128)). same_everywhere 2048 (128 * b + q) 0) }
+    record { exact = subst (Exact (replicate 2048 0)) (sym c.bare-wiring.ensures) (λ (b q : ℕ) (within : (b < 16) × (q < 128)). filled 2048 (128 * b + q) 0) }
 
 pub returns : goal.returns
 returns g c =

@@ -27,6 +27,6 @@ returns g c =
           let reach = ap (λ x. x.reach d) t.setup in
           let down = c.is_down.ensures ∙ (λ i. (t.keys i).down (at.0 i) (at.1 i)) in
           let keys = c.lift.ensures ∙ (λ i. lifted (t.keys i) (at.0 i) (at.1 i)) in
-          key_follows g.met.C.Chest.quiet (Lift d k) c.strobe.result c.lift.new.self c.set.new.self c.strobe.new.self t (grind (arith, nat_tests)) refl c.strobe.ensures.after c.strobe.ensures.answer (lifted p.keys d k) d k c.sounds-sounds.result refl keys t.sane.held (omega arith) at.2 (c.sounds-sounds.ensures ∙ (λ i. sounding (keys i) (at.0 i) (at.1 i))) (others_lifted p.keys d k) c.set.ensures.after;
+          key_follows g.met.C.Chest.quiet (Lift d k) c.strobe.result c.lift.new.self c.set.new.self c.strobe.new.self t (grind (arith, nat_tests)) refl c.strobe.ensures.after c.strobe.ensures.answer (lifted p.keys d k) d k c.sets-sounds.result refl keys t.sane.held (omega arith) at.2 (c.sets-sounds.ensures ∙ (λ i. sounding (keys i) (at.0 i) (at.1 i))) (others_lifted p.keys d k) c.set.ensures.after;
       same = tt;
     }

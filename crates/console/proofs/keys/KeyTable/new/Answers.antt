@@ -1,7 +1,7 @@
 use Rattle.std.proofs.Common.{◌≡◌, ℕ, false, [], is_some, None, refl, ap}
 use Rattle.console.specs.declared.keys.Division.{Division}
 use Rattle.console.specs.KeyTable.{key_at, held_at}
-use Rattle.console.proofs.Blank.{replicated}
+use Rattle.fittings.proofs.Filled.{replicated}
 use Rattle.console.proofs.keys.KeyTable.new.Goals as goal
 
 pub returns : goal.returns

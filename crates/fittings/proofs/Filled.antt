@@ -7,6 +7,6 @@ replicated P zero i x d h e = e
 replicated P (suc n) zero x d h e = h
 replicated P (suc n) (suc i) x d h e = replicated P n i x d h e
 
--- a table of nothing
-pub blank : {A : Type 0} (n i : ℕ) (x : A) → get_or (replicate n x) i x ≡ x
-blank n i x = replicated (λ y. y ≡ x) n i x x refl refl
+-- a table of one value
+pub filled : {A : Type 0} (n i : ℕ) (x : A) → get_or (replicate n x) i x ≡ x
+filled n i x = replicated (λ y. y ≡ x) n i x x refl refl
