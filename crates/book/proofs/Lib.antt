@@ -4,6 +4,9 @@ pub mod Course
 pub mod Clash
 pub mod Spelling
 pub mod Heading
+pub mod Gluing
+pub mod Faulting
+pub mod Outcomes
 pub mod Judging
 pub mod Writing
 pub mod Said

@@ -7,6 +7,7 @@ pub mod Grammar
 pub mod Heads
 pub mod Limits
 pub mod Numerals
+pub mod Passages
 pub mod Pieces
 pub mod Reading
 pub mod Sentences

@@ -1,7 +1,6 @@
 // The classes of a book's bytes.
 ghost use Rattle.std.specs.Prelude.{◌≡◌};
 ghost use Rattle.book.specs.Bytes.{allowed, first_outside, inside, letter, numeric};
-ghost use Rattle.book.specs.Reading.{clean};
 
 // a to z
 pub fn is_letter(b: &u8) -> bool
@@ -18,17 +17,10 @@ pub fn is_numeric(b: &u8) -> bool
 }
 
 // every byte that a book may hold inside a line
-fn is_allowed(b: &u8) -> bool
+pub fn is_allowed(b: &u8) -> bool
     ensures { result ≡ allowed b.now }
 {
     is_letter(b) || is_numeric(b) || matches!(*b, b' ' | b'(' | b')')
-}
-
-// whether a line has no other byte
-pub fn is_clean(line: &[u8]) -> bool
-    ensures { result ≡ clean line.now }
-{
-    line.iter().all(is_allowed)
 }
 
 // the place where the first line ends

@@ -5,6 +5,7 @@ ghost use Rattle.book.specs.Bytes.{letter, numeric};
 ghost use Rattle.book.specs.Tokens.{Cuts, Lexes};
 
 use crate::classes::{is_letter, is_numeric};
+use crate::passage::Passage;
 
 #[derive(Clone, Copy)]
 pub enum Token<'a> {
@@ -18,12 +19,6 @@ pub enum Token<'a> {
 #[derive(Clone, Copy)]
 pub struct Lexed<'a> {
     pub token: Token<'a>,
-    pub line: usize,
-}
-
-#[derive(Drop)]
-pub struct Lexer<'a> {
-    pub rest: &'a [u8],
     pub line: usize,
 }
 
@@ -70,14 +65,14 @@ fn first_token<'a>(text: &'a [u8]) -> Option<(Token<'a>, &'a [u8])>
     }
 }
 
-impl<'a> Lexer<'a> {
-    // The token that stands next, or `None` where none does.
+impl<'a> Passage<'a> {
+    // Takes the first token off, or nothing where none stands there.
     pub fn next_token(&mut self) -> Option<Lexed<'a>>
-        ensures answer { Lexes self.old.line self.old.rest.now result self.new.rest.now }
+        ensures answer { Lexes self.old.line self.old.text.now result self.new.text.now }
         ensures same { self.new.line ≡ self.old.line }
     {
-        let (token, rest) = first_token(self.rest)?;
-        self.rest = rest;
+        let (token, rest) = first_token(self.text)?;
+        self.text = rest;
         Some(Lexed {
             token,
             line: self.line,

@@ -10,6 +10,7 @@ mod lexing;
 mod limits;
 mod lines;
 mod numerals;
+mod passage;
 mod reading;
 mod record;
 mod shapes;

@@ -4,9 +4,9 @@ ghost use Rattle.book.specs.Pieces.{Shape};
 ghost use Rattle.book.specs.Reading.{form_of, line_form};
 ghost use Rattle.book.specs.Shapes.{Kept};
 
-use crate::classes::is_clean;
 use crate::faults::BookFault;
 use crate::forms::{Form, Head};
+use crate::passage::Passage;
 use crate::shapes::{Parts, read_shape};
 
 fn read_form(parts: Parts) -> Result<Form, BookFault>
@@ -17,15 +17,19 @@ fn read_form(parts: Parts) -> Result<Form, BookFault>
     Form::new(head, &parts.numbers, line)
 }
 
-pub fn read_line(text: &[u8], line: usize) -> Result<Option<Form>, BookFault>
-    ensures { result ≡ line_form line text.now }
-{
-    if !is_clean(text) {
-        return Err(BookFault::Byte { line });
+impl Passage<'_> {
+    // Reads it as one line.
+    pub fn read(self) -> Result<Option<Form>, BookFault>
+        ensures { result ≡ line_form self.entry.line self.entry.text.now }
+    {
+        let Passage { text, line } = self;
+        if !self.is_clean() {
+            return Err(BookFault::Byte { line });
+        }
+        if text.is_empty() {
+            return Ok(None);
+        }
+        let parts = read_shape(self).ok_or(BookFault::Shape { line })?;
+        read_form(parts).map(Some)
     }
-    if text.is_empty() {
-        return Ok(None);
-    }
-    let parts = read_shape(text, line).ok_or(BookFault::Shape { line })?;
-    read_form(parts).map(Some)
 }

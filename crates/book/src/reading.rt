@@ -5,10 +5,9 @@ ghost use Rattle.book.specs.Limits.{most_wires};
 ghost use Rattle.book.specs.Grammar.{Accepts, Judged};
 ghost use Rattle.book.specs.Reading.{Answers, Fills, at_end, read_of, with_line};
 
-use crate::classes::{end_of_line, is_clean};
 use crate::faults::BookFault;
 use crate::limits::{MOST_BYTES, MOST_WIRES};
-use crate::lines::read_line;
+use crate::passage::Passage;
 use crate::record::{Book, BookWire};
 use std::alloc::{AllocError, Global};
 
@@ -21,10 +20,11 @@ pub struct BookReader {
 }
 
 // What stands after the last line end: nothing may.
-fn read_end(text: &[u8], line: usize) -> Result<(), BookFault>
-    ensures { (b : Book) (es : List Entry) → Holds b es → Fills result b (at_end es line text.now) }
+fn read_end(rest: Passage) -> Result<(), BookFault>
+    ensures { (b : Book) (es : List Entry) → Holds b es → Fills result b (at_end es rest.entry.line rest.entry.text.now) }
 {
-    if !is_clean(text) {
+    let Passage { text, line } = rest;
+    if !rest.is_clean() {
         return Err(BookFault::Byte { line });
     }
     if !text.is_empty() {
@@ -35,12 +35,13 @@ fn read_end(text: &[u8], line: usize) -> Result<(), BookFault>
 
 impl Book {
     // Takes in one line.
-    fn add_line(&mut self, text: &[u8], line: usize) -> Result<(), BookFault>
-        ensures { (es : List Entry) → Holds self.old es → Fills result self.new (with_line es line text.now) }
+    fn add_line(&mut self, passage: Passage) -> Result<(), BookFault>
+        ensures { (es : List Entry) → Holds self.old es → Fills result self.new (with_line es passage.entry.line passage.entry.text.now) }
     {
-        let Some(form) = read_line(text, line)? else {
+        let Some(form) = passage.read()? else {
             return Ok(());
         };
+        let line = passage.line;
         self.put(form, line).map_err(|_| BookFault::Repeat { line })
     }
 }
@@ -65,15 +66,11 @@ impl BookReader {
         }
         let BookReader { wires } = self;
         let mut book = Book::blank(wires);
-        let mut rest = text;
-        // Counted here, since what follows the last line end is judged otherwise, under the number that is reached.
-        let mut line = 1;
-        while let Some(end) = end_of_line(rest) {
-            book.add_line(&rest[..end], line)?;
-            rest = &rest[end + 1..];
-            line += 1;
+        let mut rest = Passage { text, line: 1 };
+        while let Some(line) = rest.take_line() {
+            book.add_line(line)?;
         }
-        read_end(rest, line)?;
+        read_end(rest)?;
         Ok(book)
     }
 }

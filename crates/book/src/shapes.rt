@@ -3,9 +3,10 @@ ghost use Rattle.std.specs.Prelude.{◌≡◌};
 ghost use Rattle.book.specs.Pieces.{numbers_of, shape_of, pieces};
 ghost use Rattle.book.specs.Shapes.{Keeps, Shapes};
 
-use crate::lexing::{Lexer, Token};
+use crate::lexing::Token;
 use crate::limits::MOST_KEPT;
 use crate::numerals::read_numeral;
+use crate::passage::Passage;
 use arrayvec::ArrayVec;
 
 #[derive(Drop)]
@@ -17,12 +18,12 @@ pub struct Parts<'a> {
 }
 
 // The numbers up to the closing bracket, after which nothing may stand.
-fn read_numbers(lexer: &mut Lexer) -> Option<ArrayVec<i16, MOST_KEPT>>
-    ensures { Keeps result (numbers_of (pieces lexer.old.rest.now)) }
+fn read_numbers(rest: &mut Passage) -> Option<ArrayVec<i16, MOST_KEPT>>
+    ensures { Keeps result (numbers_of (pieces rest.old.text.now)) }
 {
     let mut numbers = ArrayVec::new();
     loop {
-        match lexer.next_token()?.token {
+        match rest.next_token()?.token {
             Token::Number(text) => {
                 let _ = numbers.try_push(read_numeral(text)?);
             }
@@ -30,25 +31,25 @@ fn read_numbers(lexer: &mut Lexer) -> Option<ArrayVec<i16, MOST_KEPT>>
             Token::Open | Token::Word(_) => return None,
         }
     }
-    if lexer.rest.is_empty() {
+    if rest.text.is_empty() {
         Some(numbers)
     } else {
         None
     }
 }
 
-pub fn read_shape<'a>(text: &'a [u8], line: usize) -> Option<Parts<'a>>
-    ensures { Shapes line result (shape_of text.now) }
+pub fn read_shape(line: Passage) -> Option<Parts>
+    ensures { Shapes line.entry.line result (shape_of line.entry.text.now) }
 {
-    let mut lexer = Lexer { rest: text, line };
-    let Token::Open = lexer.next_token()?.token else {
+    let mut rest = line;
+    let Token::Open = rest.next_token()?.token else {
         return None;
     };
-    let head = lexer.next_token()?;
+    let head = rest.next_token()?;
     let Token::Word(word) = head.token else {
         return None;
     };
-    let numbers = read_numbers(&mut lexer)?;
+    let numbers = read_numbers(&mut rest)?;
     Some(Parts {
         word,
         line: head.line,

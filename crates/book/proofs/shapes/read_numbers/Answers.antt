@@ -7,7 +7,7 @@ use Rattle.book.proofs.shapes.read_numbers.Goals as goal
 
 pub loop-text-preserved : goal.loop-text-preserved
 loop-text-preserved c =
-    let after = c.next_token.new.self.rest.now in
+    let after = c.next_token.new.self.text.now in
     let told = c.in_ok-text.ensures.answer in
     let z = c.in_ok-read_numeral-in-Number.field-0 in
     let p = c.try_push.ensures in
@@ -16,6 +16,6 @@ loop-text-preserved c =
 
 pub returns-else-is_empty : goal.returns-else-is_empty
 returns-else-is_empty c =
-    let after = c.next_token.new.self.rest.now in
+    let after = c.next_token.new.self.text.now in
     let cut = c.in_ok-text.ensures.answer.2 ∙ ap (λ t. token_before t (pieces after)) c.in-Close.is in
     stop _ _ _ c.loop-text.invariant (ap numbers_of cut ∙ none-after_close after (false-eqb _ 0 c.if-is_empty.ensures))

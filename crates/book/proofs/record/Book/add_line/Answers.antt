@@ -3,4 +3,4 @@ use Rattle.book.proofs.Lining.{line_in-range}
 use Rattle.book.proofs.record.Book.add_line.Goals as goal
 
 pub put-requires : goal.put-requires
-put-requires c = line_in-range c.args.line c.args.text.now _ (ap Ok (sym c.in-Some.is) ∙ c.in_ok-form.ensures)
+put-requires c = line_in-range c.args.passage.line c.args.passage.text.now _ (ap Ok (sym c.in-Some.is) ∙ c.in_ok-form.ensures)
