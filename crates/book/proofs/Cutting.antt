@@ -1,12 +1,15 @@
 -- How the pieces of a text come off its front. Assumes nothing.
-use Rattle.std.proofs.Common.{◌≡◌, ℕ, suc, true, false, List, [], ◌∷◌, ◌++◌, length, get_or, take, drop, sym, refl, ap, ◌∙◌, ⊎_elim, one-add, arith}
+use Rattle.std.proofs.Common.{◌≡◌, ℕ, suc, true, false, List, [], ◌∷◌, ◌++◌, length, get_or, take, drop, Some, None, Option, sym, refl, ap, ◌∙◌, ⊎_elim, one-add, arith}
 use Rattle.std.specs.List.{prefix_len}
 use Rattle.std.proofs.lemmas.List.{take-append-drop}
 use Rattle.std.proofs.lemmas.Bool.{cond-true, cond-false, cases_Bool, true≢false}
 use Rattle.std.proofs.lemmas.Bool.Decides.{nat_tests}
 use Rattle.book.specs.Bytes.{letter, numeric, space}
 use Rattle.book.specs.Pieces.{Kind, letters, figures, Piece, run, mark, of_kind, run_before, before, pieces}
-use Rattle.book.specs.Tokens.{begins}
+use Rattle.book.specs.declared.lexing.Token.TheVariants.{Word, Number}
+use Rattle.book.specs.Tokens.{begins, token_first, Cuts, Runs}
+use Rattle.std.specs.Option.{option_map}
+use denote.Ref.{Bor}
 
 numeric-no_letter : (b : ℕ) → numeric b ≡ true → letter b ≡ false
 numeric-no_letter b h = grind (arith, nat_tests)
@@ -91,14 +94,48 @@ split_first [] b rest some is back = absurd (some refl)
 split_first (c ∷ bs) b rest some is back = λ i. is i ∷ sym back i
 
 -- a run comes off the front whole
-pub lex_run : (k : Kind) (bs front back : List ℕ) (n : ℕ) → n ≡ prefix_len (of_kind k) bs → (n ≡ 0 → ⊥) → front ≡ take n bs → back ≡ drop n bs → (bs ≡ front ++ back) × (pieces bs ≡ run k front ∷ pieces back)
+lex_run : (k : Kind) (bs front back : List ℕ) (n : ℕ) → n ≡ prefix_len (of_kind k) bs → (n ≡ 0 → ⊥) → front ≡ take n bs → back ≡ drop n bs → (bs ≡ front ++ back) × (pieces bs ≡ run k front ∷ pieces back)
 lex_run k bs front back n is some f b =
     (sym ((λ i. f i ++ b i) ∙ take-append-drop n bs), run_first k bs n is some ∙ (λ i. run k (sym f i) ∷ pieces (sym b i)))
 
-pub lex_number : (bs after front back : List ℕ) (n : ℕ) → bs ≡ space ∷ after → n ≡ prefix_len numeric after → (n ≡ 0 → ⊥) → front ≡ take n after → back ≡ drop n after → (bs ≡ space ∷ (front ++ back)) × (pieces bs ≡ mark space ∷ (run figures front ∷ pieces back))
+lex_number : (bs after front back : List ℕ) (n : ℕ) → bs ≡ space ∷ after → n ≡ prefix_len numeric after → (n ≡ 0 → ⊥) → front ≡ take n after → back ≡ drop n after → (bs ≡ space ∷ (front ++ back)) × (pieces bs ≡ mark space ∷ (run figures front ∷ pieces back))
 lex_number bs after front back n first is some f b =
     let cut = lex_run figures after front back n is some f b in
     (first ∙ ap (λ l. space ∷ l) cut.0, ap pieces first ∙ ap (λ l. mark space ∷ l) cut.1)
+
+-- where no byte of the kind stands first, no run of it does
+none-begins : (k : Kind) (bs : List ℕ) → prefix_len (of_kind k) bs ≡ 0 → begins k (pieces bs) ≡ false
+none-begins k [] none = refl
+none-begins k (b ∷ bs) none =
+    ⊎_elim
+    (λ d. absurd (let some = sym (cond-true _ _ _ d) ∙ none in omega arith))
+    (λ d. before-out k b (pieces bs) d)
+    (cases_Bool (of_kind k b))
+
+-- a space and the run of figures after it
+pub number_cut : (bs after : List ℕ) (o : Option (Bor (List ℕ) × Bor (List ℕ))) → bs ≡ space ∷ after → Runs numeric after o → Cuts bs (option_map (λ r. (Number r.0, r.1)) o)
+number_cut bs after None first none = ap (λ l. token_first (pieces l)) first ∙ none-begins figures after none
+number_cut bs after (Some r) first h = lex_number bs after r.0.now r.1.now (prefix_len numeric after) first refl h.0 h.1 h.2
+
+figures_first : (b : ℕ) (ps : List Piece) → token_first (run_before figures b ps) ≡ false
+figures_first b [] = refl
+figures_first b (run letters w ∷ ps) = refl
+figures_first b (run figures w ∷ ps) = refl
+figures_first b (mark m ∷ ps) = refl
+
+-- a run of letters, where the text begins neither with a bracket nor with a space
+pub word_cut : (bs : List ℕ) (o : Option (Bor (List ℕ) × Bor (List ℕ))) → (get_or bs 0 0 ≡ 40 → ⊥) → (get_or bs 0 0 ≡ 41 → ⊥) → (get_or bs 0 0 ≡ 32 → ⊥) → Runs letter bs o → Cuts bs (option_map (λ r. (Word r.0, r.1)) o)
+word_cut [] None not_open not_close not_space none = refl
+word_cut (b ∷ bs) None not_open not_close not_space none =
+    ⊎_elim
+    (λ d. absurd (let some = sym (cond-true _ _ _ d) ∙ none in omega arith))
+    (λ d.
+    ⊎_elim
+    (λ f. ap token_first (before-in figures b (pieces bs) f) ∙ figures_first b (pieces bs))
+    (λ f. ap token_first (before-mark b (pieces bs) d f) ∙ grind (arith, nat_tests))
+    (cases_Bool (numeric b)))
+    (cases_Bool (letter b))
+word_cut bs (Some r) not_open not_close not_space h = lex_run letters bs r.0.now r.1.now (prefix_len letter bs) refl h.0 h.1 h.2
 
 kind_clash : (k : Kind) (b : ℕ) (ps : List Piece) → of_kind k b ≡ true → before b ps ≡ [] → ⊥
 kind_clash letters b ps h e = true≢false (sym (begins-run letters letters b ps) ∙ ap (begins letters) (sym (before-in letters b ps h) ∙ e))

@@ -1,5 +1,6 @@
 -- The tokens that the lexer hands on, by the pieces that they are. Assumes nothing.
-use Rattle.std.specs.Prelude.{◌≡◌, ℕ, Bool, true, false, ◌&&◌, ◌||◌, List, [], ◌∷◌, ◌++◌, Some, None, Option, ◌==◌}
+use Rattle.std.specs.Prelude.{◌≡◌, ℕ, Bool, true, false, ◌&&◌, ◌||◌, List, [], ◌∷◌, ◌++◌, ◌≢◌, take, drop, Some, None, Option, ◌==◌}
+use Rattle.std.specs.List.{prefix_len}
 use denote.Ref.{Bor}
 use Rattle.book.specs.declared.lexing.Token.{Token}
 use Rattle.book.specs.declared.lexing.Token.TheVariants.{Open, Word, Number, Close}
@@ -36,6 +37,11 @@ token_first [] = false
 token_first (run letters w ∷ ps) = true
 token_first (run figures w ∷ ps) = false
 token_first (mark m ∷ ps) = m == opening || (m == closing || (m == space && begins figures ps))
+
+-- the longest run of bytes that pass the test, unless it is empty, and what follows it
+abbrev pub Runs : (ℕ → Bool) → List ℕ → Option (Bor (List ℕ) × Bor (List ℕ)) → Type 0
+Runs p bs None = prefix_len p bs ≡ 0
+Runs p bs (Some r) = (prefix_len p bs ≢ 0) × (r.0.now ≡ take (prefix_len p bs) bs) × (r.1.now ≡ drop (prefix_len p bs) bs)
 
 -- the token that a text begins with, and the text after it
 abbrev pub Cuts : List ℕ → Option (Token × Bor (List ℕ)) → Type 0

@@ -1,8 +1,7 @@
 // The tokens of one line. They borrow the book's text, and each is handed on with its line.
-ghost use Rattle.std.specs.Prelude.{◌≡◌, ◌≤◌, length};
-ghost use Rattle.std.specs.List.{prefix_len};
-ghost use Rattle.book.specs.Bytes.{letter, numeric};
-ghost use Rattle.book.specs.Tokens.{Cuts, Lexes};
+ghost use Rattle.std.specs.Prelude.{◌≡◌, ℕ, Bool};
+ghost use Rattle.std.specs.Fn.{FnReturnsAt};
+ghost use Rattle.book.specs.Tokens.{Cuts, Lexes, Runs};
 
 use crate::classes::{is_letter, is_numeric};
 use crate::passage::Passage;
@@ -22,20 +21,15 @@ pub struct Lexed<'a> {
     pub line: usize,
 }
 
-// How many letters stand at the front. The two counts stay apart: a test that is handed over needs more clauses.
-fn letters(text: &[u8]) -> usize
-    ensures value { result ≡ prefix_len letter text.now }
-    ensures bound { result ≤ length text.now }
+// The longest run of one class at the front of the text, unless it is empty, and what follows it.
+fn run<'a, F: Fn(&u8) -> bool>(text: &'a [u8], class: F) -> Option<(&'a [u8], &'a [u8])>
+    requires { F.IsAlwaysCallable class }
+    ensures { (p : ℕ → Bool) → ((b : ℕ) (r : Bool) → FnReturnsAt F.Fn class b r → r ≡ p b) → Runs p text.now result }
 {
-    text.iter().take_while(|b| is_letter(b)).count()
-}
-
-// How many digits and minus signs stand at the front.
-fn figures(text: &[u8]) -> usize
-    ensures value { result ≡ prefix_len numeric text.now }
-    ensures bound { result ≤ length text.now }
-{
-    text.iter().take_while(|b| is_numeric(b)).count()
+    match text.iter().take_while(|b| class(b)).count() {
+        0 => None,
+        end => Some(text.split_at(end)),
+    }
 }
 
 // The token at the front of the text, and what follows it.
@@ -48,20 +42,8 @@ fn first_token<'a>(text: &'a [u8]) -> Option<(Token<'a>, &'a [u8])>
     match *first {
         b'(' => Some((Token::Open, after)),
         b')' => Some((Token::Close, after)),
-        b' ' => match figures(after) {
-            0 => None,
-            end => {
-                let (number, rest) = after.split_at(end);
-                Some((Token::Number(number), rest))
-            }
-        },
-        _ => match letters(text) {
-            0 => None,
-            end => {
-                let (word, rest) = text.split_at(end);
-                Some((Token::Word(word), rest))
-            }
-        },
+        b' ' => run(after, is_numeric).map(|(number, rest)| (Token::Number(number), rest)),
+        _ => run(text, is_letter).map(|(word, rest)| (Token::Word(word), rest)),
     }
 }
 
