@@ -1,15 +1,22 @@
 -- What the digits of a number are worth. Assumes nothing.
-use Rattle.std.proofs.Common.{◌≡◌, ℕ, ◌+◌, ◌-◌, ◌*◌, ◌<◌, ◌≤◌, true, false, List, length, get_or, take, drop, ℤ, pos, ◌-ℤ◌, neg_ℤ, Some, None, Option, sym, refl, ap, ◌∙◌, subst, arith, w16, to_z, of_z}
+use Rattle.std.proofs.Common.{◌≡◌, ℕ, ◌-◌, ◌<◌, ◌≤◌, true, ◌&&◌, Result, List, [], ◌∷◌, length, get_or, take, drop, ℤ, pos, ◌-ℤ◌, neg_ℤ, Some, Option, sym, refl, ap, ◌∙◌, subst, arith, w16, to_z, of_z}
 use Rattle.std.specs.Str.Parse.{AllDigits, digits_value}
-use Rattle.std.specs.Char.{digit_value, is_ascii_digit}
-use Rattle.std.specs.Str.{all_ascii_digits}
-use Rattle.std.proofs.lemmas.List.{length-take-le, take_all, take_rest}
-use Rattle.std.proofs.lemmas.Int.Digits.{digits_value_more, digits_more}
-use Rattle.std.proofs.lemmas.Str.Parse.{IsNumeralModel, numerals_by_value, tells_all_ascii_digits, tells_digits, digits_value_short, digit_at}
+use Rattle.std.specs.Char.{is_ascii_digit}
+use Rattle.std.specs.Str.{IsUtf8, all_ascii_digits}
+use Rattle.std.specs.List.{list_all}
+use Rattle.std.specs.Str.Parse.{ParsesUnsigned}
+use Rattle.std.specs.Result.{result_ok}
+use Rattle.std.specs.Option.{IfSome}
+use Rattle.std.proofs.lemmas.Str.{IsUtf8-from_ascii}
+use Rattle.std.proofs.lemmas.Fmt.{IsAscii-from_digits}
+use Rattle.std.proofs.lemmas.Bool.{and_parts, leb-true}
+use Rattle.std.proofs.lemmas.Str.Parse.{parse_gives}
+use Rattle.std.proofs.lemmas.List.{take_rest}
+use Rattle.std.proofs.lemmas.Str.Parse.{IsNumeralModel, numerals_by_value, tells_all_ascii_digits, tells_digits, digits_value_short}
 use Rattle.std.proofs.lemmas.Bool.{cond-true, cond-false, eq-eqb, ne_eqb}
 use Rattle.std.proofs.lemmas.Int.{ints}
 use Rattle.std.proofs.lemmas.Bool.Decides.{nat_tests}
-use Rattle.book.specs.Numerals.{size_of, below_zero, numeral}
+use Rattle.book.specs.Numerals.{digits_ok, size_of, below_zero, numeral}
 
 -- std's words for digits, and the test of them
 pub own : IsNumeralModel (λ ds. all_ascii_digits ds ≡ true) (digits_value 10)
@@ -18,39 +25,35 @@ own = numerals_by_value _ tells_all_ascii_digits
 plain : IsNumeralModel (AllDigits 10) (digits_value 10)
 plain = numerals_by_value _ tells_digits
 
--- three digits are worth less than a thousand
-pub value_room : (ds : List ℕ) (i : ℕ) → i < length ds → length ds ≤ 4 → AllDigits 10 (take i ds) → digits_value 10 (take i ds) ≤ 999
-value_room ds i h few d =
-    let short : length (take i ds) ≤ 3 = omega (arith, length-take-le i ds (omega arith)) in
-    omega (arith, digits_value_short plain (take i ds) 3 d short)
+pub all_digits : (ds : List ℕ) → list_all is_ascii_digit ds ≡ all_ascii_digits ds
+all_digits [] = refl
+all_digits (c ∷ cs) = ap (λ b. is_ascii_digit c && b) (all_digits cs)
 
-pub size_room : (ds : List ℕ) → length ds ≤ 4 → AllDigits 10 ds → digits_value 10 ds ≤ 9999
+size_room : (ds : List ℕ) → length ds ≤ 4 → AllDigits 10 ds → digits_value 10 ds ≤ 9999
 size_room ds few d = omega (arith, digits_value_short plain ds 4 d few)
-
-pub size-bad : (ds : List ℕ) (i : ℕ) → i < length ds → is_ascii_digit (get_or ds i 0) ≡ false → None ≡ size_of ds
-size-bad ds i h bad =
-    elim (all_ascii_digits ds) as (λ b. all_ascii_digits ds ≡ b → None ≡ size_of ds) [
-      | true ↦ λ e. let here = digit_at ds i (own.to ds e) h in absurd (grind (arith, nat_tests))
-      | false ↦ λ e. grind (arith, nat_tests)
-    ] refl
 
 pub size-good : (ds : List ℕ) → 0 < length ds → length ds ≤ 4 → (get_or ds 0 0 ≡ 48 → ⊥) → AllDigits 10 ds → Some (digits_value 10 ds) ≡ size_of ds
 size-good ds some few lead d =
     let all = own.from ds d in
     grind (arith, nat_tests)
 
-pub size-more : (ds : List ℕ) (i n d : ℕ) → i < length ds → AllDigits 10 (take i ds) → n ≡ digits_value 10 (take i ds) → is_ascii_digit (get_or ds i 0) ≡ true → d ≡ get_or ds i 0 - 48 → AllDigits 10 (take (i + 1) ds) × (n * 10 + d ≡ digits_value 10 (take (i + 1) ds))
-size-more ds i n d h digits is here last =
-    let worth : digit_value (get_or ds i 0) ≡ get_or ds i 0 - 48 = grind (arith, nat_tests) in
-    let small : get_or ds i 0 ≤ 57 = grind (arith, nat_tests) in
-    (digits_more 10 ds i h digits (omega arith), omega (arith, digits_value_more 10 ds i h))
+-- what makes digits plain, in parts
+plain-digits : (ds : List ℕ) → digits_ok ds ≡ true → (0 < length ds) × (length ds ≤ 4) × (all_ascii_digits ds ≡ true)
+plain-digits ds ok =
+    let some = and_parts _ _ ok in
+    let few = and_parts _ _ some.1 in
+    (leb-true _ _ some.0, leb-true _ _ few.0, (and_parts _ _ few.1).1)
 
-pub size-done : (ds : List ℕ) (i n : ℕ) → length ds ≤ i → 0 < length ds → length ds ≤ 4 → (get_or ds 0 0 ≡ 48 → ⊥) → AllDigits 10 (take i ds) → n ≡ digits_value 10 (take i ds) → (Some n ≡ size_of ds) × (n ≤ 9999)
-size-done ds i n end some few lead digits is =
-    let whole = take_all i ds end in
-    let all = subst (AllDigits 10) whole digits in
-    let worth = is ∙ ap (digits_value 10) whole in
-    (ap Some worth ∙ size-good ds some few lead all, omega (arith, size_room ds few all))
+pub plain-text : (ds : List ℕ) → digits_ok ds ≡ true → IsUtf8 ds
+plain-text ds ok = IsUtf8-from_ascii ds (IsAscii-from_digits ds (own.to ds (plain-digits ds ok).2))
+
+-- what std reads from plain digits
+pub size_parsed : {E : Type 0} (ds : List ℕ) (r : Result ℕ E) → digits_ok ds ≡ true → ParsesUnsigned 16 10 ds r → (result_ok r ≡ size_of ds) × IfSome (result_ok r) (λ n. n ≤ 9999)
+size_parsed ds r ok parsed =
+    let p = plain-digits ds ok in
+    let few = size_room ds p.1 (own.to ds p.2) in
+    let is = parse_gives own 16 ds r parsed p.2 p.0 (omega (arith, few)) in
+    (ap result_ok is ∙ sym (cond-true _ _ _ ok), subst (λ q. IfSome (result_ok q) (λ n. n ≤ 9999)) (sym is) few)
 
 -- o is what the bytes after the minus are worth
 pub numeral-minus : (bs : List ℕ) (o : Option ℕ) → get_or bs 0 0 ≡ 45 → o ≡ size_of (take (length bs - 1) (drop 1 bs)) → below_zero o ≡ numeral bs

@@ -1,27 +1,25 @@
 // Numbers as a book writes them: 0, or one to four digits without a leading zero, perhaps after a minus.
 ghost use Rattle.std.specs.Prelude.{◌≡◌, ◌≤◌, IfSome};
-ghost use Rattle.book.specs.Numerals.{size_of, numeral};
+ghost use Rattle.book.specs.Numerals.{digits_ok, numeral, size_of};
 
-// The number that the digits write: read here, since std's `parse` takes a plus and leading zeros too.
+// Whether these are one to four digits without a leading zero, or 0 alone.
+fn is_plain(digits: &[u8]) -> bool
+    ensures { result ≡ digits_ok digits.now }
+{
+    (1..=4).contains(&digits.len())
+        && (digits.len() == 1 || digits[0] != b'0')
+        && digits.iter().all(|b| b.is_ascii_digit())
+}
+
+// The number that the digits write: std's `parse` alone takes a plus and leading zeros too.
 fn size(digits: &[u8]) -> Option<u16>
     ensures value { result ≡ size_of digits.now }
     ensures bound { IfSome result (λ n. n ≤ 9999) }
 {
-    let count = digits.len();
-    if count == 0 || count > 4 {
+    if !is_plain(digits) {
         return None;
     }
-    if digits[0] == b'0' {
-        return if count == 1 { Some(0) } else { None };
-    }
-    let mut n: u16 = 0;
-    for b in digits {
-        if !b.is_ascii_digit() {
-            return None;
-        }
-        n = n * 10 + u16::from(*b - b'0');
-    }
-    Some(n)
+    str::from_utf8(digits).ok()?.parse().ok()
 }
 
 // The number that the bytes write, with its sign.

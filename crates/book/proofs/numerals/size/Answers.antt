@@ -1,22 +1,19 @@
-use Rattle.std.proofs.Common.{sym, arith}
-use Rattle.book.proofs.Digital.{value_room, size-bad, size-more, size-done}
+use Rattle.std.proofs.Common.{◌≡◌, ◌≤◌, true, sym, ◌∙◌, subst, rules}
+use Rattle.std.specs.Option.{IfSome}
+use Rattle.std.specs.Str.Parse.{ParsesUnsigned}
+use Rattle.book.specs.Numerals.{digits_ok}
+use Rattle.book.proofs.Digital.{size_parsed, plain-text}
 use Rattle.book.proofs.numerals.size.Goals as goal
 
-pub overflow_mul-n : goal.overflow_mul-n
-overflow_mul-n c = omega (arith, value_room c.args.digits.now c.loop-b.b-index (omega arith) (omega arith) c.loop-b.invariant.0)
-
-pub overflow_add-n : goal.overflow_add-n
-overflow_add-n c = omega (arith, value_room c.args.digits.now c.loop-b.b-index (omega arith) (omega arith) c.loop-b.invariant.0)
-
-pub loop-b-preserved : goal.loop-b-preserved
-loop-b-preserved c =
-    size-more _ _ _ _ c.loop-b-test.true c.loop-b.invariant.0 c.loop-b.invariant.1 (sym c.if-not-is_ascii_digit.ensures.value) c.from.ensures
-
-pub returns-then-not-is_ascii_digit : goal.returns-then-not-is_ascii_digit
-returns-then-not-is_ascii_digit c =
-    record { value = size-bad _ _ c.loop-b-test.true (sym c.if-not-is_ascii_digit.ensures.value); bound = tt }
+pub returns-in_err-ok : goal.returns-in_err-ok
+returns-in_err-ok c =
+    let ok : digits_ok c.args.digits.now ≡ true = search rules in
+    let text = plain-text c.args.digits.now ok in
+    absurd (search rules)
 
 pub returns : goal.returns
 returns c =
-    let both = size-done c.args.digits.now _ _ c.loop-b-test.false (omega arith) (omega arith) c.if-digits-eq48.false c.loop-b.invariant.0 c.loop-b.invariant.1 in
-    record { value = both.0; bound = both.1 }
+    let same : c.in_ok-ok.field-0.now ≡ c.args.digits.now = search rules in
+    let p = size_parsed c.args.digits.now c.parse.result (search rules) (subst (λ bs. ParsesUnsigned 16 10 bs c.parse.result) same c.parse.ensures.value.0) in
+    let is = c.ok-2.ensures.value in
+    record { value = is ∙ p.0; bound = subst (λ o. IfSome o (λ n. n ≤ 9999)) (sym is) p.1 }
