@@ -38,7 +38,7 @@ impl BookFault {
         }
     }
 
-    // The line, counted from 1, or 0 where no line is at fault.
+    // The line, counted from 1, or 0 where no line is at fault: what prints a fault prints that 0, so it is no option.
     pub fn line(self) -> usize
         ensures { result ≡ line_of self }
     {

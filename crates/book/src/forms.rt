@@ -1,6 +1,7 @@
 // The forms of a book: what each word means, from its numbers.
 ghost use Rattle.std.specs.Prelude.{◌≡◌, ◌^◌, ◌-◌, ◌<◌, [], ◌∷◌, Some};
 ghost use Rattle.std.specs.Option.{option_map};
+ghost use Rattle.std.specs.Result.{result_ok};
 ghost use Rattle.book.specs.Forms.{board_of, given, knob_from, natural, piston_from, wire_from, within};
 ghost use Rattle.book.specs.Heads.{head_of};
 ghost use Rattle.book.specs.Limits.{most_places, rows};
@@ -26,6 +27,7 @@ pub enum Board {
     Stop,
 }
 
+// Keys and ranks are two cases, since a book has two words for them and `specs/` a meaning for each.
 #[derive(Clone, Copy)]
 pub enum Form {
     Keys { row: u8, reach: u8 },
@@ -35,18 +37,39 @@ pub enum Form {
     Wire { board: Board, wire: Wire },
 }
 
-impl Head {
-    // The head with this spelling.
-    pub fn of(word: &[u8]) -> Option<Head>
-        ensures { result ≡ head_of word.now }
-    {
+// A number that no board has, or a word that no form has.
+#[derive(Clone, Copy, Debug, PartialEq)]
+pub struct Unknown;
+
+// The head with this spelling.
+impl TryFrom<&[u8]> for Head {
+    type Error = Unknown;
+
+    ghost try_from_gives = { λ word head. result_ok head ≡ head_of word.now };
+
+    fn try_from(word: &[u8]) -> Result<Head, Unknown> {
         match word {
-            b"keys" => Some(Head::Keys),
-            b"rank" => Some(Head::Rank),
-            b"knob" => Some(Head::Knob),
-            b"piston" => Some(Head::Piston),
-            b"wire" => Some(Head::Wire),
-            _ => None,
+            b"keys" => Ok(Head::Keys),
+            b"rank" => Ok(Head::Rank),
+            b"knob" => Ok(Head::Knob),
+            b"piston" => Ok(Head::Piston),
+            b"wire" => Ok(Head::Wire),
+            _ => Err(Unknown),
+        }
+    }
+}
+
+// 1 is the coupler board, 2 the stop board.
+impl TryFrom<i16> for Board {
+    type Error = Unknown;
+
+    ghost try_from_gives = { λ number board. result_ok board ≡ option_map board_of (within number 1 2) };
+
+    fn try_from(number: i16) -> Result<Board, Unknown> {
+        match number {
+            1 => Ok(Board::Coupler),
+            2 => Ok(Board::Stop),
+            _ => Err(Unknown),
         }
     }
 }
@@ -95,22 +118,11 @@ fn piston_form(piston: i16, lowest: i16, highest: i16) -> Option<Form>
     })
 }
 
-// Its board is 1, the coupler board, or 2, the stop board.
-fn board_of(number: i16) -> Option<Board>
-    ensures { result ≡ option_map board_of (within number 1 2) }
-{
-    match number {
-        1 => Some(Board::Coupler),
-        2 => Some(Board::Stop),
-        _ => None,
-    }
-}
-
 fn wire_form(n: [i16; 8]) -> Option<Form>
     ensures { result ≡ wire_from n }
 {
     let [board, from, lowest, highest, to, shift, knob, position] = n;
-    let board = board_of(board)?;
+    let board = Board::try_from(board).ok()?;
     let wire = Wire {
         from: unsigned(from)?,
         lowest: unsigned(lowest)?,

@@ -18,7 +18,7 @@ mod tables;
 
 pub use faults::BookFault;
 pub use fittings::{Knob, Scope, Wire};
-pub use forms::Board;
+pub use forms::{Board, Unknown};
 pub use limits::{KNOBS, MOST_BYTES, MOST_WIRES, PISTONS, ROWS};
 pub use reading::BookReader;
 pub use record::{Book, BookWire};

@@ -13,7 +13,9 @@ fn read_form(parts: Parts) -> Result<Form, BookFault>
     ensures { (s : Shape) → parts.entry.word.now ≡ s.head → Kept parts.entry.numbers s.numbers → result ≡ form_of parts.entry.line s }
 {
     let line = parts.line;
-    let head = Head::of(parts.word).ok_or(BookFault::Form { line })?;
+    let Ok(head) = Head::try_from(parts.word) else {
+        return Err(BookFault::Form { line });
+    };
     Form::new(head, &parts.numbers, line)
 }
 

@@ -18,15 +18,6 @@ mod tests {
         }
     }
 
-    // A book of the same line, over and over.
-    fn repeated(heap: Global, line: &[u8], times: usize) -> Result<Vec<u8>, AllocError> {
-        let mut text = Vec::new(heap);
-        for _ in 0..times {
-            text.extend_from_slice(line)?;
-        }
-        Ok(text)
-    }
-
     // a text, the number of its fault, and the line
     type Case = (&'static [u8], u8, usize);
 
@@ -178,13 +169,13 @@ mod tests {
     #[test]
     fn long_books(rt: HostRuntime) -> Result<(), Fail> {
         let heap = rt.alloc();
-        let full = repeated(heap, b"\n", 65536)?;
+        let full = b"\n".repeat(heap, 65536)?;
         assert_eq!(rt; judge(heap, full.as_slice())?, Ok(()));
-        let more = repeated(heap, b"\n", 65537)?;
+        let more = b"\n".repeat(heap, 65537)?;
         assert_eq!(rt; judge(heap, more.as_slice())?, Err((31, 0)));
-        let bad = repeated(heap, b"?", 65537)?;
+        let bad = b"?".repeat(heap, 65537)?;
         assert_eq!(rt; judge(heap, bad.as_slice())?, Err((31, 0)));
-        let mut late = repeated(heap, b"\n", 65535)?;
+        let mut late = b"\n".repeat(heap, 65535)?;
         late.push(b'?')?;
         assert_eq!(rt; judge(heap, late.as_slice())?, Err((32, 65536)));
         Ok(())
@@ -193,9 +184,9 @@ mod tests {
     #[test]
     fn many_wires(rt: HostRuntime) -> Result<(), Fail> {
         let heap = rt.alloc();
-        let full = repeated(heap, b"(wire 1 0 0 0 0 0 0 0)\n", 256)?;
+        let full = b"(wire 1 0 0 0 0 0 0 0)\n".repeat(heap, 256)?;
         assert_eq!(rt; judge(heap, full.as_slice())?, Ok(()));
-        let more = repeated(heap, b"(wire 2 0 0 0 0 0 0 0)\n", 257)?;
+        let more = b"(wire 2 0 0 0 0 0 0 0)\n".repeat(heap, 257)?;
         assert_eq!(rt; judge(heap, more.as_slice())?, Err((36, 257)));
         Ok(())
     }
