@@ -1,15 +1,10 @@
 -- Values that are never equal, and what an equation between two alike gives. Assumes nothing.
-use Rattle.std.proofs.Common.{◌≡◌, ℕ, Bool, true, cond, Some, None, Ok, Err, Option, Result, ◌∙◌, ⊎_elim, arith}
+use Rattle.std.proofs.Common.{◌≡◌, ℕ, Bool, true, cond, Some, None, Ok, Err, Option, Result, sym, ◌∙◌, ⊎_elim, arith}
 use Rattle.std.proofs.lemmas.Bool.{cond-true, cond-false, cases_Bool}
-
-pub some-none : {X : Type 0} (x : X) → Some x ≡ None → ⊥
-some-none x e = let z : ◌≡◌ {A = ℕ} 0 1 = cc in omega arith
+use Rattle.std.proofs.lemmas.Option.{none-some}
 
 pub ok_err : {X E : Type 0} (x : X) (e : E) → ◌≡◌ {A = Result X E} (Ok x) (Err e) → ⊥
 ok_err x e is = let z : ◌≡◌ {A = ℕ} 0 1 = cc in omega arith
-
-pub some_same : {X : Type 0} (x y : X) → Some x ≡ Some y → x ≡ y
-some_same x y e = cc
 
 pub ok_same : {X E : Type 0} (x y : X) → ◌≡◌ {A = Result X E} (Ok x) (Ok y) → x ≡ y
 ok_same x y e = cc
@@ -19,7 +14,7 @@ pub some-cond : {X : Type 0} (x : X) (b : Bool) (o : Option X) → Some x ≡ co
 some-cond x b o e =
     ⊎_elim
     (λ d. (d, e ∙ cond-true b o None d))
-    (λ d. absurd (some-none x (e ∙ cond-false b o None d)))
+    (λ d. absurd (none-some x (sym (e ∙ cond-false b o None d))))
     (cases_Bool b)
 
 pub err_same : {X E : Type 0} (e f : E) → ◌≡◌ {A = Result X E} (Err e) (Err f) → e ≡ f

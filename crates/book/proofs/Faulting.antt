@@ -2,6 +2,7 @@
 use Rattle.std.proofs.Common.{◌≡◌, ℕ, true, cond, eqb, List, [], length, Some, None, Ok, Err, Option, Result, sym, refl, ap, ◌∙◌, subst, ⊎_elim}
 use Rattle.std.proofs.lemmas.List.{nil_from_length}
 use Rattle.std.proofs.lemmas.Bool.{cond-true, cond-false, cases_Bool, eqb-true, eqb-false}
+use Rattle.std.proofs.lemmas.Option.{none-some, same_Some}
 use Rattle.book.specs.declared.faults.BookFault.{BookFault}
 use Rattle.book.specs.declared.faults.BookFault.TheVariants as fault
 use Rattle.book.specs.declared.forms.Form.{Form}
@@ -13,7 +14,7 @@ use Rattle.book.specs.Grammar.{written, Faulty}
 use Rattle.book.specs.Heads.{head_of, spelling, takes}
 use Rattle.book.specs.Pieces.{Shape, shape_of}
 use Rattle.book.specs.Reading.{clean, in_range, counted, form_of, some_form, shaped, line_form}
-use Rattle.book.proofs.Clash.{some-none, some_same, ok_err, ok_same, err_same}
+use Rattle.book.proofs.Clash.{ok_err, ok_same, err_same}
 use Rattle.book.proofs.Forming.{form_complete}
 use Rattle.book.proofs.Heading.{Clean, head_sound, head_complete, clean-sound, clean-bad}
 use Rattle.book.proofs.Spelling.{shape_sound, shape_complete}
@@ -40,7 +41,7 @@ module _ (n : ℕ) (l : List ℕ) (s : Shape) (is : shape_of l ≡ Some s) where
           t.short,
           count,
           t.text ∙ ap (λ w. written w s.numbers) (head_sound s.head h known),
-          λ f ranges hd nums. some-none f (sym (form_complete f ranges) ∙ (λ i. form_from (hd i) (nums i)) ∙ none),
+          λ f ranges hd nums. none-some f (sym none ∙ (λ i. form_from (sym hd i) (sym nums i)) ∙ form_complete f ranges),
         ),
       )
   wrong_range e h (Some f) known count form is_err = absurd (ok_err _ _ (sym is_err))
@@ -48,14 +49,14 @@ module _ (n : ℕ) (l : List ℕ) (s : Shape) (is : shape_of l ≡ Some s) where
   wrong_head : (e : BookFault) (o : Option Head) → head_of s.head ≡ o → Err e ≡ some_form (counted n s o) → Wrong n l e
   unfolding Wrong
   wrong_head e None known is_err =
-      subst (Wrong n l) (sym (err_same _ _ is_err)) (wrong_form (λ h word count. some-none h (sym (head_complete h) ∙ ap head_of (sym word) ∙ known)))
+      subst (Wrong n l) (sym (err_same _ _ is_err)) (wrong_form (λ h word count. none-some h (sym known ∙ ap head_of word ∙ head_complete h)))
   wrong_head e (Some h) known is_err =
       ⊎_elim
       (λ d. wrong_range e h (form_from h s.numbers) known (eqb-true _ _ d) refl (is_err ∙ ap some_form (cond-true _ _ _ d)))
       (λ d.
       subst (Wrong n l) (sym (err_same _ _ (is_err ∙ ap some_form (cond-false _ _ _ d))))
       (wrong_form (λ k word count.
-      let same : k ≡ h = some_same k h (sym (head_complete k) ∙ ap head_of (sym word) ∙ known) in
+      let same : k ≡ h = same_Some k h (sym (head_complete k) ∙ ap head_of (sym word) ∙ known) in
       eqb-false _ _ d (count ∙ ap takes same))))
       (cases_Bool (eqb (length s.numbers) (takes h)))
 
@@ -63,7 +64,7 @@ wrong_shape : (n : ℕ) (l : List ℕ) (e : BookFault) (o : Option Shape) → Cl
 unfolding Wrong
 wrong_shape n l e None ok some none is_err =
     subst (Wrong n l) (sym (err_same _ _ is_err))
-    (refl, λ es. (ok, some, λ _ w zs word short text. some-none _ (sym (shape_complete w zs word short) ∙ ap shape_of (sym text) ∙ none)))
+    (refl, λ es. (ok, some, λ _ w zs word short text. none-some _ (sym none ∙ ap shape_of text ∙ shape_complete w zs word short)))
 wrong_shape n l e (Some s) ok some is is_err = wrong_head n l s is e (head_of s.head) refl is_err
 
 pub wrong_line : (n : ℕ) (l : List ℕ) (e : BookFault) → Err e ≡ line_form n l → Wrong n l e
@@ -83,7 +84,7 @@ wrong_line n l e is_err =
 
 -- a line that gives nothing is empty
 some-never : (r : Result Form BookFault) → Ok None ≡ some_form r → ⊥
-some-never (Ok f) e = some-none f (sym (ok_same _ _ e))
+some-never (Ok f) e = none-some f (ok_same _ _ e)
 some-never (Err x) e = ok_err _ _ e
 
 shaped-never : (n : ℕ) (o : Option Shape) → Ok None ≡ shaped n o → ⊥

@@ -3,6 +3,7 @@ use Rattle.std.proofs.Common.{◌≡◌, ℕ, zero, suc, ◌+◌, ◌-◌, ◌<�
 use Rattle.std.proofs.lemmas.List.{drop_all, drop_more}
 use Rattle.std.proofs.lemmas.Bool.{cond-true, cond-false, cases_Bool, and_parts, leb-true, cases_eq, eq-eqb, ne_eqb}
 use Rattle.std.proofs.lemmas.Bool.Decides.{nat_tests}
+use Rattle.std.proofs.lemmas.Option.{same_Some}
 use Rattle.book.specs.declared.forms.Board.{Board}
 use Rattle.book.specs.declared.forms.Board.TheVariants.{Coupler, Stop}
 use Rattle.book.specs.declared.forms.Form.{Form}
@@ -20,12 +21,12 @@ use Rattle.book.specs.declared.faults.BookFault.TheVariants as fault
 use Rattle.std.specs.Option.{ok_or}
 
 given-some : {X Y : Type 0} (o : Option X) (f : X → Option Y) (y : Y) → Some y ≡ given o f → (x : X) × (o ≡ Some x) × (Some y ≡ f x)
-given-some None f y e = absurd (let z : ◌≡◌ {A = ℕ} 0 1 = cc in omega arith)
+given-some None f y e = absurd (grind arith)
 given-some (Some x) f y e = (x, refl, e)
 
 natural-some : (z : ℤ) (n : ℕ) → natural z ≡ Some n → z ≡ pos n
 natural-some (pos m) n e = ap pos (grind arith)
-natural-some (negsuc m) n e = absurd (let z : ◌≡◌ {A = ℕ} 0 1 = cc in omega arith)
+natural-some (negsuc m) n e = absurd (grind arith)
 
 within-some : (z : ℤ) (low high n : ℕ) → within z low high ≡ Some n → (z ≡ pos n) × (low ≤ n) × (n ≤ high)
 within-some (pos m) low high n e =
@@ -36,7 +37,7 @@ within-some (pos m) low high n e =
     (ap pos same, subst (λ k. low ≤ k) same (leb-true _ _ both.0), subst (λ k. k ≤ high) same (leb-true _ _ both.1)))
     (λ d. absurd (let s = sym (cond-false _ (Some m) None d) ∙ e in let z : ◌≡◌ {A = ℕ} 0 1 = cc in omega arith))
     (cases_Bool (leb low m && leb m high))
-within-some (negsuc m) low high n e = absurd (let z : ◌≡◌ {A = ℕ} 0 1 = cc in omega arith)
+within-some (negsuc m) low high n e = absurd (grind arith)
 
 -- what a form read from numbers is
 pub record Read (h : Head) (zs : List ℤ) (f : Form) : Type 0 where
@@ -55,9 +56,6 @@ form_complete (form.Knob knob steps home) r = grind (arith, nat_tests)
 form_complete (form.Piston piston lowest highest) r = grind (arith, nat_tests)
 form_complete (form.Wire b w) r = wire_complete b w.from w.lowest w.highest w.to w.shift w.knob w.position
 
-some_same : {X : Type 0} (x y : X) → Some x ≡ Some y → x ≡ y
-some_same x y e = cc
-
 -- the n numbers from place k on
 abbrev nths : ℕ → ℕ → List ℤ → List ℤ
 nths k zero zs = []
@@ -73,7 +71,7 @@ row_read mk zs f e =
     let q = given-some (within (nth zs 1) 0 128) _ f p.2 in
     let x = within-some (nth zs 0) 0 15 p.0 p.1 in
     let y = within-some (nth zs 1) 0 128 q.0 q.1 in
-    (p.0, q.0, x.0, y.0, omega arith, y.2, some_same _ _ q.2)
+    (p.0, q.0, x.0, y.0, omega arith, y.2, same_Some _ _ q.2)
 
 knob_read : (zs : List ℤ) (f : Form) → Some f ≡ knob_from zs → (k : ℕ) × (s : ℕ) × (h : ℕ) × (nth zs 0 ≡ pos k) × (nth zs 1 ≡ pos s) × (nth zs 2 ≡ pos h) × (f ≡ form.Knob k s h) × InRange (form.Knob k s h)
 knob_read zs f e =
@@ -83,7 +81,7 @@ knob_read zs f e =
     let x = within-some (nth zs 0) 0 63 p.0 p.1 in
     let y = within-some (nth zs 1) 2 16 q.0 q.1 in
     let z = within-some (nth zs 2) 0 (q.0 - 1) r.0 r.1 in
-    (p.0, q.0, r.0, x.0, y.0, z.0, some_same _ _ r.2, (omega arith, (y.1, y.2, omega arith)))
+    (p.0, q.0, r.0, x.0, y.0, z.0, same_Some _ _ r.2, (omega arith, (y.1, y.2, omega arith)))
 
 piston_read : (zs : List ℤ) (f : Form) → Some f ≡ piston_from zs → (p : ℕ) × (a : ℕ) × (b : ℕ) × (nth zs 0 ≡ pos p) × (nth zs 1 ≡ pos a) × (nth zs 2 ≡ pos b) × (f ≡ form.Piston p a b) × InRange (form.Piston p a b)
 piston_read zs f e =
@@ -93,7 +91,7 @@ piston_read zs f e =
     let x = within-some (nth zs 0) 0 39 p.0 p.1 in
     let y = within-some (nth zs 2) 0 63 q.0 q.1 in
     let z = within-some (nth zs 1) 0 q.0 r.0 r.1 in
-    (p.0, r.0, q.0, x.0, z.0, y.0, some_same _ _ r.2, (omega arith, (z.2, omega arith)))
+    (p.0, r.0, q.0, x.0, z.0, y.0, same_Some _ _ r.2, (omega arith, (z.2, omega arith)))
 
 board_back : (n : ℕ) → 1 ≤ n → n ≤ 2 → board_number (board_of n) ≡ n
 board_back n p q =
@@ -112,7 +110,7 @@ wire_read zs w e =
     let k = given-some (natural (nth zs 6)) _ w t.2 in
     let p = given-some (natural (nth zs 7)) _ w k.2 in
     let board = within-some (nth zs 0) 1 2 b.0 b.1 in
-    let is = some_same w _ p.2 in (
+    let is = same_Some w _ p.2 in (
       ap head_in is,
       ap numbers_in is ∙
           (λ i.

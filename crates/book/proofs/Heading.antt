@@ -7,6 +7,7 @@ use Rattle.std.proofs.ByRecursion.{All-append, All-weaker}
 use Rattle.std.proofs.lemmas.Slice.Eq.{bytes_eq-Decides}
 use Rattle.std.proofs.lemmas.Bool.{cond-true, cond-false, cases_Bool, and_parts, eq-eqb, ne_eqb, true≢false}
 use Rattle.std.proofs.lemmas.Bool.Decides.{nat_tests}
+use Rattle.std.proofs.lemmas.Option.{none-some, same_Some}
 use Rattle.book.specs.declared.forms.Form.{Form}
 use Rattle.book.specs.declared.forms.Form.TheVariants as form
 use Rattle.book.specs.declared.forms.Head.{Head}
@@ -17,7 +18,6 @@ use Rattle.book.specs.Grammar.{head_in, numbers_in, number_text, written, form_t
 use Rattle.book.specs.Heads.{head_of, spelling, takes}
 use Rattle.book.specs.Pieces.{Shape}
 use Rattle.book.specs.Reading.{clean, in_range, counted, some_form, shaped, line_form}
-use Rattle.book.proofs.Clash.{some-none, some_same}
 use Rattle.book.proofs.Forming.{form_sound, form_complete}
 use Rattle.book.proofs.Lining.{line_formed}
 use Rattle.book.proofs.Spelling.{shape_sound, shape_complete}
@@ -26,7 +26,7 @@ use Rattle.book.proofs.Writing.{signed_numeric}
 head_step : (w : List ℕ) (k h : Head) (rest : Option Head) → cond (bytes_eq w (spelling k)) (Some k) rest ≡ Some h → (w ≡ spelling h) ⊎ (rest ≡ Some h)
 head_step w k h rest e =
     ⊎_elim
-    (λ d. inl ((bytes_eq-Decides w (spelling k)).0 d ∙ ap spelling (some_same k h (sym (cond-true _ _ _ d) ∙ e))))
+    (λ d. inl ((bytes_eq-Decides w (spelling k)).0 d ∙ ap spelling (same_Some k h (sym (cond-true _ _ _ d) ∙ e))))
     (λ d. inr (sym (cond-false _ _ _ d) ∙ e))
     (cases_Bool (bytes_eq w (spelling k)))
 
@@ -37,7 +37,7 @@ head_sound w h e =
     ⊎_elim (λ is. is) (λ e2.
     ⊎_elim (λ is. is) (λ e3.
     ⊎_elim (λ is. is) (λ e4.
-    ⊎_elim (λ is. is) (λ e5. absurd (some-none h (sym e5)))
+    ⊎_elim (λ is. is) (λ e5. absurd (none-some h e5))
     (head_step w head.Wire h _ e4))
     (head_step w head.Piston h _ e3))
     (head_step w head.Knob h _ e2))

@@ -36,11 +36,11 @@ pub record Formed (n : ℕ) (l : List ℕ) (f : Form) : Type 0 where
   pub form : Some f ≡ form_from head shape.numbers
 
 by_range : (n : ℕ) (o : Option Form) (f : Form) → Ok f ≡ in_range n o → Some f ≡ o
-by_range n None f e = absurd (let z : ◌≡◌ {A = ℕ} 0 1 = cc in omega arith)
+by_range n None f e = absurd (grind arith)
 by_range n (Some g) f e = cc
 
 by_head : (n : ℕ) (s : Shape) (o : Option Head) (f : Form) → Ok f ≡ counted n s o → (h : Head) × (o ≡ Some h) × (length s.numbers ≡ takes h) × (Some f ≡ form_from h s.numbers)
-by_head n s None f e = absurd (let z : ◌≡◌ {A = ℕ} 0 1 = cc in omega arith)
+by_head n s None f e = absurd (grind arith)
 by_head n s (Some h) f e =
     ⊎_elim
     (λ d. (h, refl, eqb-true _ _ d, by_range n _ f (e ∙ cond-true _ _ _ d)))
@@ -49,10 +49,10 @@ by_head n s (Some h) f e =
 
 by_some : (r : Result Form BookFault) (f : Form) → Ok (Some f) ≡ some_form r → Ok f ≡ r
 by_some (Ok g) f e = cc
-by_some (Err x) f e = absurd (let z : ◌≡◌ {A = ℕ} 0 1 = cc in omega arith)
+by_some (Err x) f e = absurd (grind arith)
 
 by_shaped : (n : ℕ) (l : List ℕ) (o : Option Shape) (f : Form) → shape_of l ≡ o → Ok (Some f) ≡ shaped n o → Formed n l f
-by_shaped n l None f is e = absurd (let z : ◌≡◌ {A = ℕ} 0 1 = cc in omega arith)
+by_shaped n l None f is e = absurd (grind arith)
 by_shaped n l (Some s) f is e =
     let g = by_head n s (head_of s.head) f (by_some _ f e) in
     record { shape = s; head = g.0; shaped = is; known = g.1; count = g.2; form = g.3 }

@@ -4,11 +4,12 @@ use Rattle.std.specs.List.{flat_map, prefix_len, AllByRecursion}
 use Rattle.std.specs.Fmt.{signed_decimal}
 use Rattle.std.proofs.lemmas.List.{append_assoc, take_at, drop_at}
 use Rattle.std.proofs.lemmas.Bool.{cond-true, cases_Bool, eqb-true}
+use Rattle.std.proofs.lemmas.Option.{none-some, same_Some}
 use Rattle.book.specs.Bytes.{letter, numeric, space, opening, closing}
 use Rattle.book.specs.Grammar.{Short, number_text, written, Word}
 use Rattle.book.specs.Numerals.{numeral}
 use Rattle.book.specs.Pieces.{Kind, letters, figures, Piece, run, mark, of_kind, run_before, before, pieces, with_number, numbers_of, Shape, with_head, shape_from, shape_of}
-use Rattle.book.proofs.Clash.{some-none, some_same, some-cond}
+use Rattle.book.proofs.Clash.{some-cond}
 use Rattle.book.proofs.Cutting.{before-in, before-mark, run_first}
 use Rattle.book.proofs.Writing.{numeral-sound, numeral-complete, signed_numeric}
 
@@ -65,19 +66,19 @@ pieces-lettered (b ∷ bs) =
     by_class (AllByRecursion Lettered) b (pieces bs) (λ h. lettered_run b (pieces bs) h all) (λ _. lettered_figures b (pieces bs) all) (tt, all)
 
 with_sound : (zs : List ℤ) (a : Option ℤ) (o : Option (List ℤ)) → Some zs ≡ with_number a o → (z : ℤ) × (ys : List ℤ) × (Some z ≡ a) × (Some ys ≡ o) × (zs ≡ z ∷ ys)
-with_sound zs None o e = absurd (some-none zs e)
-with_sound zs (Some z) None e = absurd (some-none zs e)
-with_sound zs (Some z) (Some ys) e = (z, ys, refl, refl, some_same _ _ e)
+with_sound zs None o e = absurd (none-some zs (sym e))
+with_sound zs (Some z) None e = absurd (none-some zs (sym e))
+with_sound zs (Some z) (Some ys) e = (z, ys, refl, refl, same_Some _ _ e)
 
 -- the pieces after the word are the numbers and the closing bracket
 numbers_sound : (ps : List Piece) (zs : List ℤ) → Some zs ≡ numbers_of ps → (flat_map piece_text ps ≡ flat_map number_text zs ++ closing ∷ []) × AllByRecursion Short zs
-numbers_sound [] zs e = absurd (some-none zs e)
-numbers_sound (run k w ∷ ps) zs e = absurd (some-none zs e)
+numbers_sound [] zs e = absurd (none-some zs (sym e))
+numbers_sound (run k w ∷ ps) zs e = absurd (none-some zs (sym e))
 numbers_sound (mark m ∷ []) zs e =
     let p = some-cond zs (eqb m closing) (Some []) e in
-    let none = some_same zs [] p.1 in
+    let none = same_Some zs [] p.1 in
     (ap (λ b. b ∷ []) (eqb-true _ _ p.0) ∙ ap (λ l. flat_map number_text l ++ closing ∷ []) (sym none), subst (AllByRecursion Short) (sym none) tt)
-numbers_sound (mark m ∷ (run letters w ∷ ps)) zs e = absurd (some-none zs e)
+numbers_sound (mark m ∷ (run letters w ∷ ps)) zs e = absurd (none-some zs (sym e))
 numbers_sound (mark m ∷ (run figures d ∷ ps)) zs e =
     let p = some-cond zs (eqb m space) (with_number (numeral d) (numbers_of ps)) e in
     let q = with_sound zs (numeral d) (numbers_of ps) p.1 in
@@ -86,7 +87,7 @@ numbers_sound (mark m ∷ (run figures d ∷ ps)) zs e =
       (λ i. eqb-true _ _ p.0 i ∷ (first.0 i ++ more.0 i)) ∙ ap (λ l. space ∷ l) (sym (append_assoc (signed_decimal q.0) (flat_map number_text q.1) (closing ∷ []))) ∙ ap (λ l. flat_map number_text l ++ closing ∷ []) (sym q.4),
       subst (AllByRecursion Short) (sym q.4) (first.1, more.1),
     )
-numbers_sound (mark m ∷ (mark n ∷ ps)) zs e = absurd (some-none zs e)
+numbers_sound (mark m ∷ (mark n ∷ ps)) zs e = absurd (none-some zs (sym e))
 
 -- a shape that is read, with the line that it is read from
 pub record Spells (bs : List ℕ) (s : Shape) : Type 0 where
@@ -95,13 +96,13 @@ pub record Spells (bs : List ℕ) (s : Shape) : Type 0 where
   pub short : AllByRecursion Short s.numbers
 
 with_head-sound : (w : List ℕ) (o : Option (List ℤ)) (s : Shape) → Some s ≡ with_head w o → (w ≡ s.head) × (Some s.numbers ≡ o)
-with_head-sound w None s e = absurd (some-none s e)
-with_head-sound w (Some zs) s e = let same = some_same s _ e in (sym (ap (λ t. t.head) same), ap (λ t. Some t.numbers) same)
+with_head-sound w None s e = absurd (none-some s (sym e))
+with_head-sound w (Some zs) s e = let same = same_Some s _ e in (sym (ap (λ t. t.head) same), ap (λ t. Some t.numbers) same)
 
 shape_from-sound : (bs : List ℕ) (ps : List Piece) (s : Shape) → flat_map piece_text ps ≡ bs → AllByRecursion Lettered ps → Some s ≡ shape_from ps → Spells bs s
-shape_from-sound bs [] s t all e = absurd (some-none s e)
-shape_from-sound bs (run k w ∷ ps) s t all e = absurd (some-none s e)
-shape_from-sound bs (mark m ∷ []) s t all e = absurd (some-none s e)
+shape_from-sound bs [] s t all e = absurd (none-some s (sym e))
+shape_from-sound bs (run k w ∷ ps) s t all e = absurd (none-some s (sym e))
+shape_from-sound bs (mark m ∷ []) s t all e = absurd (none-some s (sym e))
 shape_from-sound bs (mark m ∷ (run letters w ∷ ps)) s t all e =
     let p = some-cond s (eqb m opening) (with_head w (numbers_of ps)) e in
     let q = with_head-sound w (numbers_of ps) s p.1 in
@@ -111,8 +112,8 @@ shape_from-sound bs (mark m ∷ (run letters w ∷ ps)) s t all e =
       word = subst Word q.0 all.1.0;
       short = more.1;
     }
-shape_from-sound bs (mark m ∷ (run figures d ∷ ps)) s t all e = absurd (some-none s e)
-shape_from-sound bs (mark m ∷ (mark n ∷ ps)) s t all e = absurd (some-none s e)
+shape_from-sound bs (mark m ∷ (run figures d ∷ ps)) s t all e = absurd (none-some s (sym e))
+shape_from-sound bs (mark m ∷ (mark n ∷ ps)) s t all e = absurd (none-some s (sym e))
 
 pub shape_sound : (bs : List ℕ) (s : Shape) → shape_of bs ≡ Some s → Spells bs s
 shape_sound bs s e = shape_from-sound bs (pieces bs) s (pieces-text bs) (pieces-lettered bs) (sym e)

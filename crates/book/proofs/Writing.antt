@@ -9,16 +9,17 @@ use Rattle.std.proofs.lemmas.Fmt.{decimal-digits_value, decimal_digit, decimal_n
 use Rattle.std.proofs.lemmas.Str.Parse.{digits_value_short, digit_from_value, digit_at}
 use Rattle.std.proofs.lemmas.Bool.{cond-true, cond-false, cases_Bool, and_parts, or_cases, leb-true, not-true, eqb-true, eqb-false, ne_eqb}
 use Rattle.std.proofs.lemmas.Bool.Decides.{nat_tests}
+use Rattle.std.proofs.lemmas.Option.{none-some, same_Some}
 use Rattle.book.specs.Bytes.{numeric}
 use Rattle.book.specs.Grammar.{Short}
 use Rattle.book.specs.Numerals.{digits_ok, size_of, below_zero, numeral}
-use Rattle.book.proofs.Clash.{some-none, some_same, some-cond}
+use Rattle.book.proofs.Clash.{some-cond}
 use Rattle.book.proofs.Digital.{own, size-good}
 
 size-sound : (ds : List ℕ) (n : ℕ) → Some n ≡ size_of ds → (ds ≡ decimal n) × (n ≤ 9999)
 size-sound ds n e =
     let p = some-cond n (digits_ok ds) (Some (digits_value 10 ds)) e in
-    let same = some_same _ _ p.1 in
+    let same = same_Some _ _ p.1 in
     let a = and_parts _ _ p.0 in
     let b = and_parts _ _ a.1 in
     let c = and_parts _ _ b.1 in
@@ -40,18 +41,18 @@ above_zero : (m : ℕ) → eqb (suc m) 0 ≡ false
 above_zero m = ne_eqb (suc m) 0 (λ (h : suc m ≡ 0). omega arith)
 
 minus-sound : (bs : List ℕ) (o : Option ℕ) (z : ℤ) → get_or bs 0 0 ≡ 45 → size_of (drop 1 bs) ≡ o → Some z ≡ below_zero o → (bs ≡ signed_decimal z) × Short z
-minus-sound bs None z first is e = absurd (some-none z e)
+minus-sound bs None z first is e = absurd (none-some z (sym e))
 minus-sound [] (Some n) z first is e = absurd (omega arith)
-minus-sound (b ∷ bs) (Some zero) z first is e = absurd (some-none z e)
+minus-sound (b ∷ bs) (Some zero) z first is e = absurd (none-some z (sym e))
 minus-sound (b ∷ bs) (Some (suc m)) z first is e =
-    let same : z ≡ negsuc m = some_same z (negsuc m) (e ∙ cond-false _ _ _ (above_zero m)) in
+    let same : z ≡ negsuc m = same_Some z (negsuc m) (e ∙ cond-false _ _ _ (above_zero m)) in
     let s = size-sound bs (suc m) (sym is) in
     subst (λ y. (b ∷ bs ≡ signed_decimal y) × Short y) (sym same) ((λ i. first i ∷ s.0 i), omega arith)
 
 plain-sound : (bs : List ℕ) (o : Option ℕ) (z : ℤ) → size_of bs ≡ o → Some z ≡ option_map pos o → (bs ≡ signed_decimal z) × Short z
-plain-sound bs None z is e = absurd (some-none z e)
+plain-sound bs None z is e = absurd (none-some z (sym e))
 plain-sound bs (Some n) z is e =
-    subst (λ y. (bs ≡ signed_decimal y) × Short y) (sym (some_same z (pos n) e)) (size-sound bs n (sym is))
+    subst (λ y. (bs ≡ signed_decimal y) × Short y) (sym (same_Some z (pos n) e)) (size-sound bs n (sym is))
 
 -- a numeral is its number as it is written
 pub numeral-sound : (bs : List ℕ) (z : ℤ) → Some z ≡ numeral bs → (bs ≡ signed_decimal z) × Short z

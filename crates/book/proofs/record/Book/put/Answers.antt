@@ -1,7 +1,6 @@
-use Rattle.std.proofs.Common.{◌<◌, not, length, sym, ap, ◌∙◌, subst, arith}
-use Rattle.std.proofs.lemmas.Bool.{lt-leb}
-use Rattle.book.specs.Entries.{Entry, keys_of, pipes_of, knob_of, scope_of, wire_of, wires_of, taken, InRange}
-use Rattle.book.specs.Limits.{rows, knobs, pistons, most_wires}
+use Rattle.std.proofs.Common.{not, sym, ap, ◌∙◌, subst}
+use Rattle.book.specs.Entries.{Entry, keys_of, pipes_of, knob_of, scope_of, wire_of, taken, InRange}
+use Rattle.book.specs.Limits.{rows, knobs, pistons}
 use Rattle.book.proofs.Said.{more_table, full_or_free, divisions_stay, ranks_stay, knobs-stay, pistons-stay, wires-stay, wires-grow}
 use Rattle.book.proofs.record.Book.put.Goals as goal
 
@@ -73,20 +72,14 @@ returns-in-Piston c =
           };
     }
 
-pub returns-else-len-ge-MOST_WIRES : goal.returns-else-len-ge-MOST_WIRES
-returns-else-len-ge-MOST_WIRES c =
+pub returns-else-len-ge-MOST_WIRES-clause-after : goal.returns-else-len-ge-MOST_WIRES-clause-after
+returns-else-len-ge-MOST_WIRES-clause-after c es h done =
     let is = c.in-Wire.is in
+    let e : Entry = record { line = c.args.line; form = c.args.form } in
     record {
-      answer = λ es h.
-          let few : length (wires_of es) < most_wires = omega (arith, ap length h.wires, c.args.self.now.wires.ok.0) in
-          ap not (sym (lt-leb most_wires _ few)) ∙ ap (λ f. not (taken es f)) (sym is);
-      after = λ es h done.
-          let e : Entry = record { line = c.args.line; form = c.args.form } in
-          record {
-            divisions = divisions_stay _ es h e (λ j. ap (keys_of j) is);
-            ranks = ranks_stay _ es h e (λ j. ap (pipes_of j) is);
-            knobs = knobs-stay _ es h e (λ j. ap (knob_of j) is);
-            pistons = pistons-stay _ es h e (λ j. ap (scope_of j) is);
-            wires = wires-grow _ es h e _ _ c.push_reserved.ensures.items (ap (λ f. wire_of (record { line = c.args.line; form = f })) is);
-          };
+      divisions = divisions_stay _ es h e (λ j. ap (keys_of j) is);
+      ranks = ranks_stay _ es h e (λ j. ap (pipes_of j) is);
+      knobs = knobs-stay _ es h e (λ j. ap (knob_of j) is);
+      pistons = pistons-stay _ es h e (λ j. ap (scope_of j) is);
+      wires = wires-grow _ es h e _ _ c.push_reserved.ensures.items (ap (λ f. wire_of (record { line = c.args.line; form = f })) is);
     }
