@@ -45,13 +45,13 @@ some-outside p bs n e =
     let s = e ∙ cond-true _ (Some (prefix_len p bs)) None d in
     let same : n ≡ prefix_len p bs = cc in
     (same, omega (arith, ltb-true _ _ d)))
-    (λ d. absurd (let s = e ∙ cond-false _ (Some (prefix_len p bs)) None d in let z : ◌≡◌ {A = ℕ} 0 1 = cc in omega arith))
+    (λ d. absurd (let s = e ∙ cond-false _ (Some (prefix_len p bs)) None d in grind arith))
     (cases_Bool (ltb (prefix_len p bs) (length bs)))
 
 none-outside : (p : ℕ → Bool) (bs : List ℕ) → None ≡ first_outside p bs → length bs ≤ prefix_len p bs
 none-outside p bs e =
     ⊎_elim
-    (λ d. absurd (let s = e ∙ cond-true _ (Some (prefix_len p bs)) None d in let z : ◌≡◌ {A = ℕ} 0 1 = cc in omega arith))
+    (λ d. absurd (let s = e ∙ cond-true _ (Some (prefix_len p bs)) None d in grind arith))
     (λ d. ltb-false _ _ d)
     (cases_Bool (ltb (prefix_len p bs) (length bs)))
 

@@ -149,6 +149,6 @@ some-pieces b ps e =
     (λ d.
     ⊎_elim
     (λ f. kind_clash figures b ps f e)
-    (λ f. let g = sym (before-mark b ps d f) ∙ e in let z : ◌≡◌ {A = ℕ} 0 1 = cc in omega arith)
+    (λ f. let g = sym (before-mark b ps d f) ∙ e in grind arith)
     (cases_Bool (numeric b)))
     (cases_Bool (letter b))

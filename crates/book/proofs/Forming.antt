@@ -35,7 +35,7 @@ within-some (pos m) low high n e =
     let same : m ≡ n = (let s = sym (cond-true _ (Some m) None d) ∙ e in grind arith) in
     let both = and_parts _ _ d in
     (ap pos same, subst (λ k. low ≤ k) same (leb-true _ _ both.0), subst (λ k. k ≤ high) same (leb-true _ _ both.1)))
-    (λ d. absurd (let s = sym (cond-false _ (Some m) None d) ∙ e in let z : ◌≡◌ {A = ℕ} 0 1 = cc in omega arith))
+    (λ d. absurd (let s = sym (cond-false _ (Some m) None d) ∙ e in grind arith))
     (cases_Bool (leb low m && leb m high))
 within-some (negsuc m) low high n e = absurd (grind arith)
 

@@ -6,16 +6,16 @@ use Rattle.book.specs.Bytes.{allowed, line_end}
 use Rattle.book.specs.Reading.{onto_first, cut}
 
 pub cut-some : (bs : List ℕ) → cut bs ≡ [] → ⊥
-cut-some [] e = let z : ◌≡◌ {A = ℕ} 0 1 = cc in omega arith
+cut-some [] e = grind arith
 cut-some (b ∷ bs) e =
     ⊎_elim
-    (λ d. let g = sym (cond-true _ ([] ∷ cut bs) (onto_first b (cut bs)) d) ∙ e in let z : ◌≡◌ {A = ℕ} 0 1 = cc in omega arith)
+    (λ d. let g = sym (cond-true _ ([] ∷ cut bs) (onto_first b (cut bs)) d) ∙ e in grind arith)
     (λ d. onto_some b (cut bs) (sym (cond-false _ ([] ∷ cut bs) (onto_first b (cut bs)) d) ∙ e))
     (cases_Bool (eqb b line_end))
   where
     onto_some : (b : ℕ) (ls : List (List ℕ)) → onto_first b ls ≡ [] → ⊥
-    onto_some b [] e = let z : ◌≡◌ {A = ℕ} 0 1 = cc in omega arith
-    onto_some b (l ∷ ls) e = let z : ◌≡◌ {A = ℕ} 0 1 = cc in omega arith
+    onto_some b [] e = grind arith
+    onto_some b (l ∷ ls) e = grind arith
 
 -- a byte that does not end a line
 abbrev pub Inner : ℕ → Type 0

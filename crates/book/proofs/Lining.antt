@@ -44,7 +44,7 @@ by_head n s None f e = absurd (grind arith)
 by_head n s (Some h) f e =
     ⊎_elim
     (λ d. (h, refl, eqb-true _ _ d, by_range n _ f (e ∙ cond-true _ _ _ d)))
-    (λ d. absurd (let g = e ∙ cond-false _ (in_range n (form_from h s.numbers)) (Err (fault.Form n)) d in let z : ◌≡◌ {A = ℕ} 0 1 = cc in omega arith))
+    (λ d. absurd (let g = e ∙ cond-false _ (in_range n (form_from h s.numbers)) (Err (fault.Form n)) d in grind arith))
     (cases_Bool (eqb (length s.numbers) (takes h)))
 
 by_some : (r : Result Form BookFault) (f : Form) → Ok (Some f) ≡ some_form r → Ok f ≡ r
@@ -62,10 +62,10 @@ line_formed n l f e =
     ⊎_elim
     (λ ok.
     ⊎_elim
-    (λ none. absurd (let g = e ∙ cond-true _ (cond (eqb (length l) 0) (Ok None) (shaped n (shape_of l))) (Err (fault.Byte n)) ok ∙ cond-true _ _ _ none in let z : ◌≡◌ {A = ℕ} 0 1 = cc in omega arith))
+    (λ none. absurd (let g = e ∙ cond-true _ (cond (eqb (length l) 0) (Ok None) (shaped n (shape_of l))) (Err (fault.Byte n)) ok ∙ cond-true _ _ _ none in grind arith))
     (λ some. by_shaped n l (shape_of l) f refl (e ∙ cond-true _ (cond (eqb (length l) 0) (Ok None) (shaped n (shape_of l))) (Err (fault.Byte n)) ok ∙ cond-false _ _ _ some))
     (cases_Bool (eqb (length l) 0)))
-    (λ bad. absurd (let g = e ∙ cond-false _ (cond (eqb (length l) 0) (Ok None) (shaped n (shape_of l))) (Err (fault.Byte n)) bad in let z : ◌≡◌ {A = ℕ} 0 1 = cc in omega arith))
+    (λ bad. absurd (let g = e ∙ cond-false _ (cond (eqb (length l) 0) (Ok None) (shaped n (shape_of l))) (Err (fault.Byte n)) bad in grind arith))
     (cases_Bool (clean l))
 
 -- a form that a line gives is in range

@@ -115,7 +115,7 @@ line_outcome es n l bs more (Ok (Some f)) inner rest is =
     (cases_Bool (taken es f))
 
 cons_some : (l : List ℕ) (ls : List (List ℕ)) → l ∷ ls ≡ [] → ⊥
-cons_some l ls e = let z : ◌≡◌ {A = ℕ} 0 1 = cc in omega arith
+cons_some l ls e = grind arith
 
 outcome : (es : List Entry) (n : ℕ) (ps : List (List ℕ)) → AllByRecursion (AllByRecursion Inner) ps → (ps ≡ [] → ⊥) → Outcome es n (glue ps) (lines_from es n ps)
 unfolding glue
