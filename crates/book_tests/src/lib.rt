@@ -3,7 +3,7 @@
 
 #[cfg(test)]
 mod tests {
-    use book::{Board, BookReader};
+    use book::{Board, BookReader, Unknown};
     use std::alloc::{AllocError, Global};
     use std::process::Abort;
     use std::test::Fail;
@@ -188,6 +188,14 @@ mod tests {
         assert_eq!(rt; judge(heap, full.as_slice())?, Ok(()));
         let more = b"(wire 2 0 0 0 0 0 0 0)\n".repeat(heap, 257)?;
         assert_eq!(rt; judge(heap, more.as_slice())?, Err((36, 257)));
+        Ok(())
+    }
+
+    #[test]
+    fn boards(rt: HostRuntime) -> Result<(), Fail> {
+        assert_eq!(rt; Board::try_from(1), Ok(Board::Coupler));
+        assert_eq!(rt; Board::try_from(2), Ok(Board::Stop));
+        assert_eq!(rt; Board::try_from(3), Err(Unknown));
         Ok(())
     }
 
