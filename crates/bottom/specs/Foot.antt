@@ -1,7 +1,8 @@
 -- What the part that both bottom chests share means. Assumes nothing.
-use Rattle.std.specs.Prelude.{ℕ, min, cond, List, nat_lt, slice_index}
+use Rattle.std.specs.Prelude.{ℕ, cond, List, nat_lt, slice_index}
 use Rattle.chest.specs.Places.{none}
 use Rattle.chest.specs.Meaning.{Meaning}
+use Rattle.chest.specs.Reaches.{reach_of, reaches_of}
 use Rattle.bottom.specs.declared.foot.Foot.{Foot}
 use Rattle.bottom.specs.Layout.{shown}
 
@@ -9,7 +10,7 @@ use Rattle.bottom.specs.Layout.{shown}
 abbrev pub foot_meaning : Foot → Meaning
 foot_meaning f =
     record {
-      reach = λ r. cond (nat_lt r 16) (slice_index f.reaches r) 0;
+      reach = reaches_of f.reaches;
       register = shown f.bits.set.bytes;
       panel = λ k. cond (nat_lt k 64) (slice_index f.positions k) 0;
       speaking = shown f.bits.speaking.bytes;
@@ -21,7 +22,7 @@ foot_meaning f =
 abbrev pub new_bottom : List ℕ → Meaning
 new_bottom reaches =
     record {
-      reach = λ r. cond (nat_lt r 16) (min (slice_index reaches r) 128) 0;
+      reach = reach_of reaches;
       register = none;
       panel = λ k. 0;
       speaking = none;

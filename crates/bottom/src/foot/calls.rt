@@ -1,5 +1,5 @@
 // The calls of a chest, on what both bottom chests keep.
-ghost use Rattle.std.specs.Prelude.{◌≡◌, ℕ, min, OnErr, slice_index};
+ghost use Rattle.std.specs.Prelude.{◌≡◌, OnErr};
 ghost use Rattle.chest.specs.Places.{changed};
 ghost use Rattle.chest.specs.Meaning.{reach_answer, position_answer, set_answer, set_after, turn_answer, turn_after, strobe_after};
 ghost use Rattle.bottom.specs.Foot.{foot_meaning, new_bottom};
@@ -7,9 +7,9 @@ ghost use Rattle.bottom.specs.Foot.{foot_meaning, new_bottom};
 use crate::bits::Bits;
 use crate::foot::Foot;
 use crate::table::PipeTable;
-use chest::chest::{KNOBS, PLACES, ROWS};
+use chest::chest::{KNOBS, ROWS};
 use chest::fault::ChestFault;
-use chest::place::Place;
+use chest::reaches::Reaches;
 use chest::setting::Setting;
 
 impl Foot {
@@ -17,7 +17,7 @@ impl Foot {
         ensures { foot_meaning result ≡ new_bottom reaches }
     {
         Foot {
-            reaches: capped(reaches),
+            reaches: Reaches::new(reaches),
             positions: [0; KNOBS],
             strobes: 0,
             bits: Bits {
@@ -30,8 +30,7 @@ impl Foot {
     pub(crate) fn reach(&self, row: usize) -> Result<usize, ChestFault>
         ensures { result ≡ reach_answer (foot_meaning self.now) row }
     {
-        let reach = self.reaches.get(row).ok_or(ChestFault::Row { row })?;
-        Ok(usize::from(*reach))
+        self.reaches.reach(row)
     }
 
     pub(crate) fn position(&self, knob: usize) -> Result<usize, ChestFault>
@@ -46,11 +45,8 @@ impl Foot {
         ensures same { OnErr result (self.new ≡ self.old) }
         ensures after { foot_meaning self.new ≡ set_after (foot_meaning self.old) row place on }
     {
-        let reach = self.reach(row)?;
-        if place >= reach {
-            return Err(ChestFault::Place { row, place });
-        }
-        self.bits.put(Place { row, place }, on);
+        let at = self.reaches.place(row, place)?;
+        self.bits.put(at, on);
         Ok(())
     }
 
@@ -71,11 +67,4 @@ impl Foot {
         self.strobes = self.strobes.wrapping_add(1);
         self.bits.strobe()
     }
-}
-
-// The reaches with each one above 128 as 128.
-fn capped(reaches: [u8; ROWS]) -> [u8; ROWS]
-    ensures { (k : ℕ) → slice_index result k ≡ min (slice_index reaches k) 128 }
-{
-    reaches.map(|reach| reach.min(PLACES as u8))
 }

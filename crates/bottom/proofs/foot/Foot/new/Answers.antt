@@ -1,4 +1,4 @@
-use Rattle.std.proofs.Common.{cond, ltb, ap, arith, lit<}
+use Rattle.std.proofs.Common.{ap, arith, lit<}
 use borrow.Author.Tests.{both_ways}
 use Rattle.chest.specs.Places.{Places}
 use Rattle.bottom.proofs.Kept.{panel_zero}
@@ -7,7 +7,6 @@ use Rattle.bottom.proofs.foot.Foot.new.Goals as goal
 
 pub invariant_of-result : goal.invariant_of-result
 invariant_of-result c = record {
-  low = λ r. omega (arith, c.capped.ensures r);
   stands = λ k. omega (arith, zeros 64 k);
   inside = λ r p h. absurd (both_ways _ (ap (λ (s : Places). s r p) c.none.ensures) h);
   counted = lit< tt;
@@ -16,7 +15,7 @@ invariant_of-result c = record {
 pub returns : goal.returns
 returns c = λ i.
     record {
-      reach = λ r. cond (ltb r 16) (c.capped.ensures r i) 0;
+      reach = c.new.ensures i;
       register = c.none.ensures i;
       panel = λ k. panel_zero k i;
       speaking = c.none-2.ensures i;
