@@ -1,6 +1,7 @@
-use Rattle.std.proofs.Common.{ap, arith, lit<}
+use Rattle.std.proofs.Common.{◌≡◌, ap, rules, arith, lit<}
 use borrow.Author.Tests.{both_ways}
 use Rattle.chest.specs.Places.{Places}
+use Rattle.chest.specs.Reaches.{reach_of, reaches_of}
 use Rattle.bottom.proofs.Kept.{panel_zero}
 use Rattle.bottom.proofs.Tables.{zeros}
 use Rattle.bottom.proofs.foot.Foot.new.Goals as goal
@@ -13,9 +14,11 @@ invariant_of-result c = record {
 }
 
 pub returns : goal.returns
-returns c = λ i.
+returns c =
+    let reach : reaches_of c.new.result ≡ reach_of c.args.reaches = search rules in
+    λ i.
     record {
-      reach = c.new.ensures i;
+      reach = reach i;
       register = c.none.ensures i;
       panel = λ k. panel_zero k i;
       speaking = c.none-2.ensures i;
