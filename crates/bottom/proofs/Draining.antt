@@ -1,10 +1,10 @@
 -- One place more of a drain: it stays as it is, or one message is written. Assumes nothing.
 use Rattle.std.proofs.Common.{◌≡◌, ℕ, zero, suc, ◌+◌, ◌-◌, ◌*◌, ◌/◌, ◌%◌, ◌<◌, ◌≤◌, Bool, true, false, ◌⊎◌, List, [], ◌∷◌, ◌++◌, length, take, drop, sym, refl, ap, ◌∙◌, subst, inl, inr, append-nil, append_assoc, add-one, arith, length-append, length-drop}
 use Rattle.std.proofs.Math.Seq.{take-append-add, drop-append-add}
-use Rattle.std.proofs.lemmas.List.{take_all, drop_all, take-append-drop, drop-drop, flat_map_more, length-take-le}
+use Rattle.std.proofs.lemmas.List.{take_all, drop_all, drop-drop, flat_map_more, length-take-le}
 use Rattle.std.proofs.lemmas.Bool.Decides.{nat_tests}
 use Rattle.chest.specs.Places.{Places, put, differ}
-use Rattle.bottom.specs.Drain.{count_of_places, holds, message_bytes, spelled, agreed, written_below, drained}
+use Rattle.bottom.specs.Drain.{holds, message_bytes, spelled, agreed, written_below}
 use Rattle.bottom.specs.Draining.{Wrote, UpTo, GoesOn}
 use Rattle.bottom.proofs.Pending.{Turn, still, full, next, turn, written_none, written-still, written-full, written_next, agreed-push, length-spelled}
 
@@ -154,14 +154,3 @@ module _ (t start : Places) (buffer : List ℕ) (sent : Places) (front rest : Li
 pub up_to_none : (t s : Places) (out : List ℕ) → UpTo 0 t s out s [] out
 up_to_none t s out =
     subst (λ ns. Wrote t s out ns s [] out) (sym (written_none s t (length out))) (record { sent = refl; bytes = refl; untouched = refl })
-
--- all places are done
-module _ (t s : Places) (buffer : List ℕ) (sent : Places) (out : List ℕ) (w : ℕ) (fits : w ≤ length out) (u : UpTo count_of_places t s buffer sent (take w out) (drop w out)) where
-  pub drained-answer : w ≡ length (drained s t (length buffer)).bytes
-  drained-answer = sym (length-take-le w out fits) ∙ ap length u.bytes
-
-  pub drained-items : out ≡ (drained s t (length buffer)).bytes ++ drop w buffer
-  drained-items =
-      sym (take-append-drop w out)
-      ∙ (λ i. u.bytes i ++ u.untouched i)
-      ∙ ap (λ k. (drained s t (length buffer)).bytes ++ drop k buffer) (length-take-le w out fits)

@@ -1,5 +1,5 @@
 -- The receiver's law: at one drain of a chest, and over any run. Assumes nothing.
-use Rattle.std.proofs.Common.{◌≡◌, ℕ, ◌≤◌, List, ◌++◌, length, take, drop, sym, ap, ◌∙◌, subst, arith}
+use Rattle.std.proofs.Common.{◌≡◌, ℕ, List, ◌++◌, length, take, drop, sym, ap, ◌∙◌, subst, arith}
 use Rattle.std.proofs.lemmas.Bool.Decides.{nat_tests}
 use Rattle.chest.specs.Places.{Places}
 use Rattle.bottom.specs.declared.midi_chest.MidiChest.{MidiChest}
@@ -10,8 +10,6 @@ use Rattle.bottom.specs.Layout.{shown}
 use Rattle.bottom.specs.Midi.{midi_meaning, midi_sent, midi_drained}
 use Rattle.bottom.specs.Receiver.{notes_after, DrainLaw}
 use Rattle.bottom.specs.Run.{Run, makes, sets, turns, strobes, drains, ReceiverLaw}
-use Rattle.bottom.specs.Sending.{MidiSends}
-use Rattle.bottom.proofs.Draining.{drained-answer, drained-items}
 use Rattle.bottom.proofs.Receiver.{Inside, same_flags, drained-law}
 
 shown-inside : (xs : List ℕ) → Inside (shown xs)
@@ -37,23 +35,12 @@ run_law c line run =
       next = λ room. subst (λ (x : Places × Places). DrainLaw (midi_meaning c).speaking x.0 x.1 room (midi_drained c room).bytes) (λ i. (sym (run_has run) i, sym ((chest_law c room).has line (run_has run)) i)) (chest_law c room);
     }
 
--- a drain of all places is a sending
-module _ (c d : MidiChest) (buffer out : List ℕ) (written : ℕ) (fits : written ≤ length out) (done : UpTo count_of_places (midi_meaning c).speaking (midi_sent c) buffer (midi_sent d) (take written out) (drop written out)) where
-  drain_law : DrainLaw (midi_meaning c).speaking (midi_sent c) (midi_sent d) (length buffer) (take written out)
+-- a drain of all places
+module _ (c : MidiChest) (sent : Places) (buffer out : List ℕ) (written : ℕ) (done : UpTo count_of_places (midi_meaning c).speaking (midi_sent c) buffer sent (take written out) (drop written out)) where
+  pub drain_law : DrainLaw (midi_meaning c).speaking (midi_sent c) sent (length buffer) (take written out)
   drain_law =
       subst (λ (x : Places × List ℕ). DrainLaw (midi_meaning c).speaking (midi_sent c) x.0 (length buffer) x.1) (λ i. (sym done.sent i, sym done.bytes i)) (chest_law c (length buffer))
 
-  drain_runs : d.foot ≡ c.foot → (line : List ℕ) → Run c line → Run d (line ++ take written out)
-  drain_runs same line run =
-      subst (λ l. Run d (line ++ l)) (sym done.bytes) (drains (length buffer) run (ap foot_meaning same) done.sent)
-
-  pub drain_sends : d.foot ≡ c.foot → MidiSends c buffer written out d
-  drain_sends same =
-      record {
-        answer = drained-answer _ _ buffer _ out written fits done;
-        items = drained-items _ _ buffer _ out written fits done;
-        sent = done.sent;
-        foot = same;
-        law = drain_law;
-        run = drain_runs same;
-      }
+  pub drain_runs : (d : MidiChest) → midi_sent d ≡ sent → d.foot ≡ c.foot → (line : List ℕ) → Run c line → Run d (line ++ take written out)
+  drain_runs d told same line run =
+      subst (λ l. Run d (line ++ l)) (sym done.bytes) (drains (length buffer) run (ap foot_meaning same) (told ∙ done.sent))
