@@ -34,19 +34,6 @@ impl Reader {
         self.state.feed(byte)
     }
 
-    // Reads one byte and adds its message, if it ends one, where there is room.
-    fn feed_into(&mut self, byte: u8, out: &mut Vec<Message>)
-        requires { vec_len out.old < vec_capacity out.old }
-        ensures items { out.new.items ≡ out.old.items ++ option_to_list (step self.old.state byte).0 }
-        ensures after { self.new.state ≡ (step self.old.state byte).1 }
-        ensures len { vec_len out.new ≤ vec_len out.old + 1 }
-        ensures capacity { vec_capacity out.new ≡ vec_capacity out.old }
-    {
-        if let Some(message) = self.feed(byte) {
-            out.push_reserved(message);
-        }
-    }
-
     // Reads the next bytes of the line and adds their messages to `out`. Room is made first, so that where
     // there is no memory nothing is read and nothing is lost.
     pub fn feed_all(&mut self, bytes: &[u8], out: &mut Vec<Message>) -> Result<(), AllocError>
@@ -58,8 +45,11 @@ impl Reader {
         ensures law { is_ok result ≡ true → (old : List Message) (line : List ℕ) → CaughtUp old line self.old.state out.old.items → CaughtUp old (line ++ bytes.now) self.new.state out.new.items }
     {
         out.reserve(bytes.len())?;
+        // a loop, since `extend` does not promise that the room is enough, nor how its closure leaves the reader
         for byte in bytes {
-            self.feed_into(*byte, out);
+            if let Some(message) = self.feed(*byte) {
+                out.push_reserved(message);
+            }
         }
         Ok(())
     }
