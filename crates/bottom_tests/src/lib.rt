@@ -169,6 +169,7 @@ mod tests {
         chest
     }
 
+    // The number and the whole buffer, since a part of that would hide what the drain left beyond the number.
     fn drains(
         rt: &impl Abort,
         chest: &mut MidiChest,

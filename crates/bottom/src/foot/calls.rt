@@ -56,6 +56,7 @@ impl Foot {
         ensures after { foot_meaning self.new ≡ turn_after (foot_meaning self.old) knob position }
     {
         let to = Setting::new(knob, position)?;
+        // the cast loses nothing, and `try_from` would add a case that cannot be
         self.positions[to.knob] = to.position as u8;
         Ok(())
     }

@@ -32,6 +32,7 @@ impl MidiChest {
         ensures law { DrainLaw (midi_meaning self.old).speaking (midi_sent self.old) (midi_sent self.new) (length out.old) (take result out.new) }
         ensures run { (line : List ℕ) → Run self.old line → Run self.new (line ++ take result out.new) }
     {
+        // lent whole, so that a proof knows that it stays
         let foot = &self.foot;
         self.sent.catch_up(&foot.bits.speaking, out)
     }
@@ -44,6 +45,7 @@ impl PipeTable {
         ensures bound { result ≤ length out.new }
         ensures after { UpTo 2048 (shown speaking.now.bytes) (shown self.old.bytes) out.old (shown self.new.bytes) (take result out.new) (drop result out.new) }
     {
+        // counted by hand: of a buffer lent in chunks, to a closure or for its rest a proof knows nothing afterwards
         let mut written = 0;
         // by the bytes' numbers, since one of the two tables changes on the way
         for byte in 0..BYTES {
@@ -104,5 +106,6 @@ fn note(at: Place, on: bool) -> [u8; MESSAGE]
     ensures value { result ≡ message_bytes on at.row at.place }
 {
     let kind = if on { NOTE_ON } else { NOTE_OFF };
+    // the casts lose nothing, and `try_from` would add cases that cannot be
     [kind + at.row as u8, at.place as u8, VELOCITY]
 }
