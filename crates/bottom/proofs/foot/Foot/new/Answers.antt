@@ -1,4 +1,4 @@
-use Rattle.std.proofs.Common.{◌≡◌, ap, rules, arith, lit<}
+use Rattle.std.proofs.Common.{◌≡◌, ap, rules, arith}
 use borrow.Author.Tests.{both_ways}
 use Rattle.chest.specs.Places.{Places}
 use Rattle.chest.specs.Reaches.{reach_of, reaches_of}
@@ -6,12 +6,11 @@ use Rattle.bottom.proofs.Kept.{panel_zero}
 use Rattle.bottom.proofs.Tables.{zeros}
 use Rattle.bottom.proofs.foot.Foot.new.Goals as goal
 
-pub invariant_of-result : goal.invariant_of-result
-invariant_of-result c = record {
-  stands = λ k. omega (arith, zeros 64 k);
-  inside = λ r p h. absurd (both_ways _ (ap (λ (s : Places). s r p) c.none.ensures) h);
-  counted = lit< tt;
-}
+pub invariant_of-result-clause-stands : goal.invariant_of-result-clause-stands
+invariant_of-result-clause-stands c k = omega (arith, zeros 64 k)
+
+pub invariant_of-result-clause-inside : goal.invariant_of-result-clause-inside
+invariant_of-result-clause-inside c r p h = absurd (both_ways _ (ap (λ (s : Places). s r p) c.none.ensures) h)
 
 pub returns : goal.returns
 returns c =
