@@ -1,6 +1,6 @@
 // The drain of a MIDI chest: messages for the pending pipes, as many as a buffer takes.
 ghost use Rattle.std.specs.Prelude.{◌≡◌, ℕ, ◌+◌, ◌*◌, ◌<◌, ◌≤◌, List, ◌++◌, length, take, drop};
-ghost use Rattle.bottom.specs.Drain.{message_bytes};
+ghost use Rattle.bottom.specs.Drain.{count_of_places, message_bytes};
 ghost use Rattle.bottom.specs.Draining.{UpTo, GoesOn};
 ghost use Rattle.bottom.specs.Layout.{shown};
 ghost use Rattle.bottom.specs.Midi.{midi_meaning, midi_sent, midi_drained};
@@ -43,7 +43,7 @@ impl PipeTable {
     // Writes a start or a stop for each place at which the two tables differ, while three more bytes fit.
     fn catch_up(&mut self, speaking: &PipeTable, out: &mut [u8]) -> usize
         ensures bound { result ≤ length out.new }
-        ensures after { UpTo 2048 (shown speaking.now.bytes) (shown self.old.bytes) out.old (shown self.new.bytes) (take result out.new) (drop result out.new) }
+        ensures after { UpTo count_of_places (shown speaking.now.bytes) (shown self.old.bytes) out.old (shown self.new.bytes) (take result out.new) (drop result out.new) }
     {
         // counted by hand: of a buffer lent in chunks, to a closure or for its rest a proof knows nothing afterwards
         let mut written = 0;

@@ -1,5 +1,5 @@
-use Rattle.std.proofs.Common.{◌≡◌, ap, rules, arith}
-use borrow.Author.Tests.{both_ways}
+use Rattle.std.proofs.Common.{◌≡◌, sym, ap, ◌∙◌, rules, arith}
+use Rattle.std.proofs.lemmas.Bool.{false≢true}
 use Rattle.chest.specs.Places.{Places}
 use Rattle.chest.specs.Reaches.{reach_of, reaches_of}
 use Rattle.bottom.proofs.Kept.{panel_zero}
@@ -10,7 +10,7 @@ pub invariant_of-result-clause-stands : goal.invariant_of-result-clause-stands
 invariant_of-result-clause-stands c k = omega (arith, zeros 64 k)
 
 pub invariant_of-result-clause-inside : goal.invariant_of-result-clause-inside
-invariant_of-result-clause-inside c r p h = absurd (both_ways _ (ap (λ (s : Places). s r p) c.none.ensures) h)
+invariant_of-result-clause-inside c r p h = absurd (false≢true (sym (ap (λ (s : Places). s r p) c.none.ensures) ∙ h))
 
 pub returns : goal.returns
 returns c =
