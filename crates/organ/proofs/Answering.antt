@@ -1,6 +1,5 @@
 -- One message more on a line that was answered so far. Assumes nothing.
-use Rattle.std.proofs.Common.{◌≡◌, ℕ, true, false, List, [], ◌∷◌, ◌++◌, is_err, IfOk, Ok, Err, Result, sym, refl, ap, ◌∙◌, subst, append_assoc, append-nil}
-use borrow.Author.Tests.{both_ways}
+use Rattle.std.proofs.Common.{◌≡◌, ℕ, List, [], ◌∷◌, ◌++◌, sym, refl, ap, ◌∙◌, subst, append_assoc, append-nil}
 use Rattle.std.specs.List.{flat_map}
 use Rattle.std.proofs.lemmas.List.{flat_map_more}
 use Rattle.chest.specs.Meaning.{Meaning}
@@ -17,14 +16,6 @@ use Rattle.organ.specs.declared.action.Action.TheVariants.{Nothing, Perform, Low
 use Rattle.organ.specs.Actions.{action_of}
 use Rattle.organ.specs.Responses.{Responds}
 use Rattle.organ.specs.Lines.{Outcome, silent, low, did, IsOf, AreOf, call_in, answer_in, line_in, Answered}
-
-joined_push : {A B : Type 0} (f : A → List B) (xs : List A) (x : A) → flat_map f (xs ++ x ∷ []) ≡ flat_map f xs ++ f x
-joined_push f xs x = sym (flat_map_more f [] xs x)
-
--- what holds of an answer that is no error
-pub ok_so : {E : Type 0} (r : Result Unit E) (P : Type 0) → is_err r ≡ false → IfOk r (λ x. P) → P
-ok_so (Ok x) P h p = p
-ok_so (Err e) P h p = absurd (both_ways true h refl)
 
 are_push : (ms : List Message) (os : List Outcome) (m : Message) (o : Outcome) → AreOf ms os → IsOf (action_of m) o → AreOf (ms ++ m ∷ []) (os ++ o ∷ [])
 are_push [] [] m o a i = (i, tt)
@@ -49,8 +40,8 @@ module _ {C : Type 0} {meaning : C → Meaning} {settled : C → Type 0} {c : Co
         record {
           outcomes = os ++ o ∷ [];
           are = are_push ms os m o old.are is;
-          recorded = subst (λ x. Recorded meaning settled c s p x (flat_map answer_in (os ++ o ∷ [])) e) (sym (joined_push call_in os o)) (subst (λ x. Recorded meaning settled c s p (flat_map call_in os ++ call_in o) x e) (sym (joined_push answer_in os o)) recorded);
-          lines = lines ∙ ap (λ xs. xs ++ line_in o) old.lines ∙ append_assoc before (flat_map line_in os) (line_in o) ∙ ap (λ xs. before ++ xs) (sym (joined_push line_in os o));
+          recorded = subst (λ x. Recorded meaning settled c s p x (flat_map answer_in (os ++ o ∷ [])) e) (flat_map_more call_in [] os o) (subst (λ x. Recorded meaning settled c s p (flat_map call_in os ++ call_in o) x e) (flat_map_more answer_in [] os o) recorded);
+          lines = lines ∙ ap (λ xs. xs ++ line_in o) old.lines ∙ append_assoc before (flat_map line_in os) (line_in o) ∙ ap (λ xs. before ++ xs) (flat_map_more line_in [] os o);
         }
 
     more : (a : Action) → action_of m ≡ a → Responds meaning settled a d e mid after → Answered meaning settled c e s p (ms ++ m ∷ []) before after

@@ -1,5 +1,5 @@
 -- What a message of the line asks of the console. Assumes nothing.
-use Rattle.std.specs.Prelude.{ℕ, ◌-◌, Bool, cond, ◌==◌, nat_le, nat_lt}
+use Rattle.std.specs.Prelude.{ℕ, ◌-◌, cond, ◌==◌, nat_le, nat_lt}
 use Rattle.midi.specs.declared.message.Message.{Message}
 use Rattle.midi.specs.declared.message.Message.TheVariants.{NoteOff, NoteOn, KeyPressure, Controller, Program, ChannelPressure, Bend}
 use Rattle.console.specs.declared.call.Call.TheVariants.{Press, Lift, Sustain, Clear, Turn, Capture, Recall, Cancel}
@@ -10,10 +10,10 @@ use Rattle.organ.specs.declared.action.Action.TheVariants.{Nothing, Perform, Low
 abbrev pub on_channel : ℕ → Action → Action → Action
 on_channel channel division settings = cond (channel == 15) settings division
 
--- a note of a division: key 0 has note 36
-abbrev pub key_action : ℕ → ℕ → Bool → Action
-key_action division note down =
-    cond (nat_lt note 36) (LowNote division note) (cond down (Perform (Press division (note - 36))) (Perform (Lift division (note - 36))))
+-- a note of a division: key 0 has note 36, and velocity 0 lifts
+abbrev pub key_action : ℕ → ℕ → ℕ → Action
+key_action division note velocity =
+    cond (nat_lt note 36) (LowNote division note) (cond (nat_lt 0 velocity) (Perform (Press division (note - 36))) (Perform (Lift division (note - 36))))
 
 -- a note-on of channel 15: note 127 cancels, another captures the piston of its number; velocity 0 does nothing
 abbrev pub note_setting : ℕ → ℕ → Action
@@ -30,7 +30,7 @@ controller_action channel controller value =
 -- a note of either kind
 abbrev pub note_action : ℕ → ℕ → ℕ → Action
 note_action channel note velocity =
-    on_channel channel (key_action channel note (nat_lt 0 velocity)) (note_setting note velocity)
+    on_channel channel (key_action channel note velocity) (note_setting note velocity)
 
 -- a note-off is a note-on with velocity 0
 abbrev pub action_of : Message → Action

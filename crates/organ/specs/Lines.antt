@@ -10,9 +10,8 @@ use Rattle.console.specs.Plays.{Recorded}
 use Rattle.console.specs.Record.{Answer}
 use Rattle.organ.specs.declared.action.Action.{Action}
 use Rattle.organ.specs.declared.action.Action.TheVariants.{Nothing, Perform, LowNote}
-use Rattle.organ.specs.declared.listing.Line.TheVariants.{Fault}
 use Rattle.organ.specs.Actions.{action_of}
-use Rattle.organ.specs.Listing.{line_bytes}
+use Rattle.organ.specs.Listing.{line_bytes, fault_bytes}
 use Rattle.organ.specs.Responses.{line_of}
 
 -- what a message came to: nothing, a note that was too low, or a call with its answer
@@ -53,7 +52,7 @@ answer_in (did call r) = r ∷ []
 
 abbrev pub line_in : Outcome → List ℕ
 line_in silent = []
-line_in low = line_bytes (Fault 2)
+line_in low = fault_bytes 2
 line_in (did call r) = line_bytes (line_of r)
 
 -- these messages were answered, from one console that stands as a model to another, and the listing grew by their lines:

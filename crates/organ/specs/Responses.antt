@@ -2,7 +2,6 @@
 use Rattle.std.specs.Prelude.{◌≡◌, ℕ, List, ◌++◌, Ok, Err, Result}
 use Rattle.chest.specs.Meaning.{Meaning}
 use Rattle.console.specs.declared.console.Console.{Console}
-use Rattle.console.specs.Faults.{number_of}
 use Rattle.console.specs.Record.{Answer}
 use Rattle.console.specs.Tracks.{Follows}
 use Rattle.organ.specs.declared.action.Action.{Action}
@@ -10,19 +9,19 @@ use Rattle.organ.specs.declared.action.Action.TheVariants.{Nothing, Perform, Low
 use Rattle.organ.specs.declared.response.OutOfMemory.{OutOfMemory}
 use Rattle.organ.specs.declared.listing.Line.{Line}
 use Rattle.organ.specs.declared.listing.Line.TheVariants.{Done, Fault}
-use Rattle.organ.specs.Listing.{line_bytes}
+use Rattle.organ.specs.Listing.{line_bytes, fault_bytes}
 
 -- the line of an answer
 abbrev pub line_of : Answer → Line
 line_of (Ok n) = Done n
-line_of (Err e) = Fault (number_of e)
+line_of (Err e) = Fault e
 
 -- the console before and after an action, and the listing before and after it
 abbrev pub Responds : {C : Type 0} (meaning : C → Meaning) (settled : C → Type 0) → Action → Console C → Console C → List ℕ → List ℕ → Type 0
 Responds meaning settled Nothing c d before after = (d ≡ c) × (after ≡ before)
 Responds meaning settled (Perform call) c d before after =
     (answer : Answer) × Follows meaning settled c call answer d × (after ≡ before ++ line_bytes (line_of answer))
-Responds meaning settled (LowNote division note) c d before after = (d ≡ c) × (after ≡ before ++ line_bytes (Fault 2))
+Responds meaning settled (LowNote division note) c d before after = (d ≡ c) × (after ≡ before ++ fault_bytes 2)
 
 -- how many messages were answered: all of them, or those before the one that found no memory
 abbrev pub until : Result Unit OutOfMemory → ℕ → ℕ

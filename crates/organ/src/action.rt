@@ -26,23 +26,22 @@ pub enum Action {
     LowNote { division: usize, note: usize },
 }
 
-// A note of a division.
-fn key_action(division: u8, note: u8, down: bool) -> Action
-    ensures { result ≡ key_action division note down }
+// A note of a division: velocity 0 lifts its key, and another presses it.
+fn key_action(division: u8, note: u8, velocity: u8) -> Action
+    ensures { result ≡ key_action division note velocity }
 {
     let division = usize::from(division);
-    if note < LOWEST_NOTE {
+    let Some(key) = note.checked_sub(LOWEST_NOTE) else {
         return Action::LowNote {
             division,
             note: usize::from(note),
         };
-    }
-    let key = usize::from(note - LOWEST_NOTE);
-    if down {
-        Action::Perform(Call::Press { division, key })
-    } else {
-        Action::Perform(Call::Lift { division, key })
-    }
+    };
+    let key = usize::from(key);
+    Action::Perform(match velocity {
+        0 => Call::Lift { division, key },
+        _ => Call::Press { division, key },
+    })
 }
 
 // A note-on of channel 15.
@@ -91,7 +90,7 @@ fn note_action(channel: u8, note: u8, velocity: u8) -> Action
     if channel == SETTINGS {
         note_setting(note, velocity)
     } else {
-        key_action(channel, note, velocity > 0)
+        key_action(channel, note, velocity)
     }
 }
 

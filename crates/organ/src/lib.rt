@@ -6,6 +6,5 @@ pub mod action;
 pub mod assembly;
 pub mod listing;
 pub mod opening;
-mod refused;
 pub mod response;
 mod tables;

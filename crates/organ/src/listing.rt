@@ -1,8 +1,13 @@
 // The lines of a listing: what was done and what was refused.
-ghost use Rattle.std.specs.Prelude.{◌≡◌, ◌+◌, ◌≤◌, true, ◌++◌, length, is_ok, if◌then◌else◌, vec_len, vec_capacity, decimal};
+ghost use Rattle.std.specs.Prelude.{◌≡◌, ◌+◌, ◌*◌, ◌≤◌, true, ◌++◌, length, is_ok, if◌then◌else◌, codes, vec_len, vec_capacity, decimal};
 ghost use Rattle.organ.specs.Listing.{line_bytes, HasRoom, OneLineMore};
+ghost use Rattle.organ.specs.Refused.{fault_line, refusal_line};
+ghost use Rattle.organ.specs.Responses.{line_of};
 
-use itoa::Buffer;
+use crate::assembly::Refusal;
+use book::BookFault;
+use console::fault::PlayFault;
+use itoa::{Buffer, Integer};
 use std::alloc::AllocError;
 
 // The most bytes that a line can have: a word, two numbers of 20 digits, brackets, spaces and its end.
@@ -13,9 +18,11 @@ pub enum Line {
     // A call was done, and this many pipes changed.
     Done { count: u32 },
     // A call was refused.
-    Fault { number: u8 },
-    // A book was refused.
-    BookFault { number: u8, line: usize },
+    Fault(PlayFault),
+    // A text is no book.
+    Book(BookFault),
+    // A board refused a wire of a book.
+    Wire(Refusal),
 }
 
 fn push_text(listing: &mut Vec<u8>, text: &[u8])
@@ -28,14 +35,25 @@ fn push_text(listing: &mut Vec<u8>, text: &[u8])
 }
 
 // A text and a number after it.
-fn push_field(listing: &mut Vec<u8>, lead: &[u8], n: usize)
-    requires { vec_len listing.old + (length lead.now + 20) ≤ vec_capacity listing.old }
-    ensures items { listing.new.items ≡ listing.old.items ++ (lead.now ++ decimal n) }
-    ensures bound { vec_len listing.new ≤ vec_len listing.old + (length lead.now + 20) }
+fn push_field<I: Integer>(listing: &mut Vec<u8>, lead: &[u8], n: I)
+    requires { vec_len listing.old + (length lead.now + I.MAX_STR_LEN) ≤ vec_capacity listing.old }
+    ensures items { listing.new.items ≡ listing.old.items ++ (lead.now ++ I.text n) }
+    ensures bound { vec_len listing.new ≤ vec_len listing.old + (length lead.now + I.MAX_STR_LEN) }
     ensures capacity { vec_capacity listing.old ≤ vec_capacity listing.new }
 {
     push_text(listing, lead);
     push_text(listing, Buffer::new().format(n).as_bytes());
+}
+
+// The number of a book's fault and the line where it is.
+fn push_place(listing: &mut Vec<u8>, number: u8, line: usize)
+    requires { vec_len listing.old + 31 ≤ vec_capacity listing.old }
+    ensures items { listing.new.items ≡ listing.old.items ++ (codes "(fault " ++ (decimal number ++ (codes " " ++ decimal line))) }
+    ensures bound { vec_len listing.new ≤ vec_len listing.old + 31 }
+    ensures capacity { vec_capacity listing.old ≤ vec_capacity listing.new }
+{
+    push_field(listing, b"(fault ", number);
+    push_field(listing, b" ", line);
 }
 
 impl Line {
@@ -47,14 +65,42 @@ impl Line {
     {
         listing.reserve(LONGEST_LINE)?;
         match self {
-            Line::Done { count } => push_field(listing, b"(done ", count as usize),
-            Line::Fault { number } => push_field(listing, b"(fault ", usize::from(number)),
-            Line::BookFault { number, line } => {
-                push_field(listing, b"(fault ", usize::from(number));
-                push_field(listing, b" ", line);
-            }
+            Line::Done { count } => push_field(listing, b"(done ", count),
+            Line::Fault(fault) => push_field(listing, b"(fault ", fault.number()),
+            Line::Book(fault) => push_place(listing, fault.number(), fault.line()),
+            Line::Wire(refusal) => push_place(listing, refusal.number(), refusal.line),
         }
         push_text(listing, b")\n");
         Ok(())
+    }
+}
+
+// The line of a call's answer.
+impl From<Result<u32, PlayFault>> for Line {
+    ghost from_gives = { λ answer line. line ≡ line_of answer };
+
+    fn from(answer: Result<u32, PlayFault>) -> Line {
+        match answer {
+            Ok(count) => Line::Done { count },
+            Err(fault) => Line::Fault(fault),
+        }
+    }
+}
+
+// The line for a text that is no book.
+impl From<BookFault> for Line {
+    ghost from_gives = { λ fault line. line ≡ fault_line fault };
+
+    fn from(fault: BookFault) -> Line {
+        Line::Book(fault)
+    }
+}
+
+// The line for a wire that its board refuses.
+impl From<Refusal> for Line {
+    ghost from_gives = { λ refusal line. line ≡ refusal_line refusal };
+
+    fn from(refusal: Refusal) -> Line {
+        Line::Wire(refusal)
     }
 }

@@ -4,7 +4,7 @@ ghost use Rattle.console.specs.Model.{Setup, Model};
 ghost use Rattle.console.specs.Tracks.{Tracks};
 ghost use Rattle.organ.specs.Actions.{action_of};
 ghost use Rattle.organ.specs.Lines.{Answered};
-ghost use Rattle.organ.specs.Responses.{line_of, until, Responds};
+ghost use Rattle.organ.specs.Responses.{until, Responds};
 ghost use Rattle.organ.specs.Listing.{HasRoom, OneLineMore};
 
 use crate::action::Action;
@@ -14,20 +14,6 @@ use console::console::Console;
 use console::fault::PlayFault;
 use midi::Message;
 use std::alloc::AllocError;
-
-// The line of a call's answer.
-impl From<Result<u32, PlayFault>> for Line {
-    ghost from_gives = { λ answer line. line ≡ line_of answer };
-
-    fn from(answer: Result<u32, PlayFault>) -> Line {
-        match answer {
-            Ok(count) => Line::Done { count },
-            Err(fault) => Line::Fault {
-                number: fault.number(),
-            },
-        }
-    }
-}
 
 // There is no memory for the line of a message; those before it were answered.
 #[derive(Clone, Copy, Debug, PartialEq)]
@@ -55,7 +41,7 @@ pub fn respond<C: Chest>(
                 division,
                 key: note,
             };
-            Line::from(Err(fault)).add_to(listing)
+            Line::Fault(fault).add_to(listing)
         }
     }
 }
@@ -69,10 +55,8 @@ pub fn respond_all<C: Chest>(
     ensures answers { (s : Setup) (p : Model) → Tracks C.Chest.meaning C.Chest.settled console.old s p → Answered C.Chest.meaning C.Chest.settled console.old console.new s p (take (until result (length messages.now)) messages.now) listing.old.items listing.new.items }
     ensures succeeds { HasRoom listing.old (length messages.now) → is_ok result ≡ true }
 {
-    for (i, message) in messages.iter().enumerate() {
-        if respond(console, *message, listing).is_err() {
-            return Err(OutOfMemory { answered: i });
-        }
+    for (answered, message) in messages.iter().enumerate() {
+        respond(console, *message, listing).map_err(|_| OutOfMemory { answered })?;
     }
     Ok(())
 }

@@ -1,5 +1,5 @@
 -- A book that was read, and what is listed for it. Assumes nothing.
-use Rattle.std.proofs.Common.{◌≡◌, ℕ, cond, List, ◌++◌, is_ok, IfOk, IfErr, Ok, Err, Result, sym, refl, ap, ◌∙◌}
+use Rattle.std.proofs.Common.{◌≡◌, ℕ, cond, List, ◌++◌, is_ok, IfOk, Ok, Err, Result, sym, refl, ap, ◌∙◌}
 use Rattle.chest.specs.Meaning.{Meaning}
 use Rattle.book.specs.declared.faults.BookFault.{BookFault}
 use Rattle.book.specs.declared.record.Book.{Book}
@@ -24,14 +24,6 @@ use Rattle.recital.proofs.Services.{given_is}
 pub added : {E : Type 0} (r : Result Unit E) (old new line : List ℕ) (P : List ℕ → Type 0) → P line → new ≡ cond (is_ok r) (old ++ line) old → IfOk r (λ x. (given : List ℕ) × (new ≡ old ++ given) × P given)
 added (Ok x) old new line P p e = (line, e, p)
 added (Err y) old new line P p e = tt
-
-pub not_added : {E : Type 0} (r : Result Unit E) (old new line : List ℕ) → new ≡ cond (is_ok r) (old ++ line) old → IfErr r (λ x. new ≡ old)
-not_added (Ok x) old new line e = tt
-not_added (Err y) old new line e = e
-
-pub refused_weaker : {X Y : Type 0} (r : Result X Y) (P Q : Y → Type 0) → ((y : Y) → P y → Q y) → IfErr r P → IfErr r Q
-refused_weaker (Ok x) P Q f p = tt
-refused_weaker (Err y) P Q f p = f y p
 
 -- a wire that its board refuses
 pub refuses : {C : Type 0} (meaning : C → Meaning) (settled : C → Type 0) (b : Book) (m : Meaning) (h : Result Hung Refusal) (r : Refusal) (bytes : List ℕ) → Opens meaning settled b m h (Err r) → Gives (book_setup b) (stack_meaning (keys_in b) m) h bytes (line_bytes (refusal_line r))

@@ -16,11 +16,10 @@ use Rattle.console.specs.Record.{Answer, Entry, EntryLaw, RecordLaw, pipes_of, s
 use Rattle.organ.specs.declared.action.Action.{Action}
 use Rattle.organ.specs.declared.action.Action.TheVariants.{Nothing, Perform, LowNote}
 use Rattle.organ.specs.declared.assembly.Refusal.{Refusal}
-use Rattle.organ.specs.declared.listing.Line.TheVariants.{Fault}
 use Rattle.organ.specs.Actions.{action_of}
 use Rattle.organ.specs.Assembly.{Hung, stack_meaning}
 use Rattle.organ.specs.Lines.{Outcome, silent, low, did, IsOf, AreOf, call_in, answer_in, line_in}
-use Rattle.organ.specs.Listing.{line_bytes}
+use Rattle.organ.specs.Listing.{line_bytes, fault_bytes}
 use Rattle.organ.specs.Opening.{Opens, book_setup, organ_meaning}
 use Rattle.organ.specs.Responses.{line_of}
 use Rattle.recital.specs.declared.playing.Recital.{Recital}
@@ -90,7 +89,7 @@ module _ (s : Setup) (stack : Meaning) where
         subst (λ x. line_bytes (line_of r) ++ flat_map line_in os ≡ line_bytes (line_of (model_answer s stack p x)) ++ message_lines s stack (after s p x) ms) is (call_told call r es m p rule speaks calls answers law)
     told_more (LowNote d n) silent is es m p rule speaks calls answers law = absurd is
     told_more (LowNote d n) low is es m p rule speaks calls answers law =
-        ap (λ l. line_bytes (Fault 2) ++ l) (rest es m p rule speaks calls answers law)
+        ap (λ l. fault_bytes 2 ++ l) (rest es m p rule speaks calls answers law)
     told_more (LowNote d n) (did call r) is es m p rule speaks calls answers law = absurd is
 
   pub told : (ms : List Message) (os : List Outcome) → AreOf ms os → Told ms os

@@ -1,5 +1,5 @@
 -- What a performance lists, in the words of grammar, rule, reading and record. Assumes nothing.
-use Rattle.std.specs.Prelude.{◌≡◌, ℕ, List, map, Ok, Err, Option, Result}
+use Rattle.std.specs.Prelude.{◌≡◌, ℕ, List, ◌++◌, map, Ok, Err, Option, Result}
 use Rattle.std.specs.List.{flat_map}
 use Rattle.chest.specs.Meaning.{Meaning}
 use Rattle.midi.specs.Reading.{reading}
@@ -57,6 +57,10 @@ pub data Performs (text bytes given : List ℕ) : Type 0 where
   unwired : (es : List Written) → IsBook text es → (r : Refusal) → hung_said es ≡ Err r → given ≡ line_bytes (refusal_line r) → Performs text bytes given
   -- it is a book, and its boards take all wires: the lines of a service on its organ
   played : (es : List Written) → IsBook text es → (h : Hung) → hung_said es ≡ Ok h → Service (setup_said es) (stack_said es h) bytes given → Performs text bytes given
+
+-- what was added to a listing is what is listed for this text and these bytes
+abbrev pub Performed : (text bytes before after : List ℕ) → Type 0
+Performed text bytes before after = (given : List ℕ) × (after ≡ before ++ given) × Performs text bytes given
 
 -- that leaves no choice: what is listed is the listing by its definition
 abbrev pub ListingLaw : Type 0

@@ -5,8 +5,8 @@ use Rattle.console.specs.Tracks.{Tracks}
 use Rattle.organ.specs.Lines.{Answered}
 use Rattle.organ.proofs.response.respond_all.Given as goal
 
-abbrev pub invariant-loop-i : goal.invariant-loop-i
-invariant-loop-i g l =
+abbrev pub invariant-loop-answered : goal.invariant-loop-answered
+invariant-loop-answered g l =
     let chest = g.C.Chest in
-    ((vec_len l.listing ≤ vec_len l.initial.listing + 64 * l.i) × (vec_capacity l.initial.listing ≤ vec_capacity l.listing))
-    × ((s : Setup) (p : Model) → Tracks chest.meaning chest.settled l.initial.console s p → Answered chest.meaning chest.settled l.initial.console l.console s p (take l.i l.messages) (vec_items l.initial.listing) (vec_items l.listing))
+    ((vec_len l.listing ≤ vec_len l.initial.listing + 64 * l.answered-counter) × (vec_capacity l.initial.listing ≤ vec_capacity l.listing))
+    × ((s : Setup) (p : Model) → Tracks chest.meaning chest.settled l.initial.console s p → Answered chest.meaning chest.settled l.initial.console l.console s p (take l.answered-counter l.messages) (vec_items l.initial.listing) (vec_items l.listing))
