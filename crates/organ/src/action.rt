@@ -48,14 +48,12 @@ fn key_action(division: u8, note: u8, velocity: u8) -> Action
 fn note_setting(note: u8, velocity: u8) -> Action
     ensures { result ≡ note_setting note velocity }
 {
-    if velocity == 0 {
-        Action::Nothing
-    } else if note == CANCEL_NOTE {
-        Action::Perform(Call::Cancel)
-    } else {
-        Action::Perform(Call::Capture {
+    match (note, velocity) {
+        (_, 0) => Action::Nothing,
+        (CANCEL_NOTE, _) => Action::Perform(Call::Cancel),
+        _ => Action::Perform(Call::Capture {
             piston: usize::from(note),
-        })
+        }),
     }
 }
 
@@ -63,22 +61,17 @@ fn controller_action(channel: u8, controller: u8, value: u8) -> Action
     ensures { result ≡ controller_action channel controller value }
 {
     let division = usize::from(channel);
-    if channel == SETTINGS {
-        if controller < KNOBS {
-            let knob = usize::from(controller);
-            return Action::Perform(Call::Turn {
-                knob,
-                position: usize::from(value),
-            });
-        }
-        return Action::Nothing;
-    }
-    match controller {
-        SUSTAIN => Action::Perform(Call::Sustain {
+    match (channel, controller) {
+        (SETTINGS, 0..KNOBS) => Action::Perform(Call::Turn {
+            knob: usize::from(controller),
+            position: usize::from(value),
+        }),
+        (SETTINGS, _) => Action::Nothing,
+        (_, SUSTAIN) => Action::Perform(Call::Sustain {
             division,
             on: value >= 64,
         }),
-        CLEAR => Action::Perform(Call::Clear { division }),
+        (_, CLEAR) => Action::Perform(Call::Clear { division }),
         _ => Action::Nothing,
     }
 }

@@ -44,10 +44,10 @@ fn fit_all<C: Chest>(
 {
     for wire in wires {
         if wire.board == on {
-            let line = wire.line;
-            board
-                .fit(wire.wire)
-                .map_err(|fault| Refusal { line, fault })?;
+            board.fit(wire.wire).map_err(|fault| Refusal {
+                line: wire.line,
+                fault,
+            })?;
         }
     }
     Ok(())
