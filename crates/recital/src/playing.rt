@@ -62,7 +62,7 @@ impl<C: Chest> Recital<C> {
         ensures bound { OneLineMore listing.old listing.new }
     {
         if let Some(message) = self.reader.feed(byte) {
-            let _ = respond(&mut self.console, message, listing);
+            respond(&mut self.console, message, listing).unwrap();
         }
     }
 
