@@ -1,5 +1,5 @@
--- The answers for `play`: no byte yet, one more, and all.
-use Rattle.std.proofs.Common.{get_or, vec_items, refl, subst, arith}
+-- The answers for `play`: no byte yet, one more, and what the listing then has more.
+use Rattle.std.proofs.Common.{get_or, vec_items, subst, arith}
 use Rattle.std.proofs.lemmas.List.{take_more, take_all}
 use Rattle.recital.specs.Playing.{GoesOn}
 use Rattle.recital.proofs.Bytes.{goes_none, goes_more}
@@ -20,16 +20,11 @@ loop-byte-preserved g c =
       rw (take_more bytes i 0 c.loop-byte-test.true) (goes_more c.args.self.now c.loop-byte.self c.hear.new.self _ _ (vec_items c.loop-byte.listing) _ (get_or bytes i 0) c.loop-byte.invariant.1 c.hear.ensures.law),
     )
 
-pub returns : goal.returns
-returns g c =
+pub returns-clause-items : goal.returns-clause-items
+returns-clause-items g c =
     let bytes = c.args.bytes.now in
     let old = vec_items c.args.listing.now in
     let new = vec_items c.loop-byte.listing in
     let played = rw (take_all c.loop-byte.byte-index bytes c.loop-byte-test.false) at c.loop-byte.invariant.1 in
-    let goes : GoesOn g.C.Chest.meaning g.C.Chest.settled c.args.self.now c.loop-byte.self bytes old new = subst (λ xs. GoesOn g.C.Chest.meaning g.C.Chest.settled c.args.self.now c.loop-byte.self bytes xs new) c.make_room.ensures.items played in
-    record {
-      law = goes;
-      items = λ text line u. lists_on c.args.self.now c.loop-byte.self bytes old new text line goes u;
-      same = tt;
-      succeeds = λ h. refl;
-    }
+    let goes = subst (λ xs. GoesOn g.C.Chest.meaning g.C.Chest.settled c.args.self.now c.loop-byte.self bytes xs new) c.make_room.ensures.items played in
+    λ text line u. lists_on c.args.self.now c.loop-byte.self bytes old new text line goes u
