@@ -28,8 +28,3 @@ module _ {C : Type 0} (meaning : C → Meaning) (settled : C → Type 0) (b : Bo
       let setup : setup_of (stack_means stack).reach knobs pistons ≡ book_setup b = λ i. record { reach = (made.1 i).reach; steps = λ k. steps k i; home = λ k. homes k i; scope = λ q. scopes q i } in
       (subst (λ x. Making x (stack_meaning (keys_in b) m h) (organ_meaning meaning settled c)) setup (subst (λ x. Making (setup_of (stack_means stack).reach knobs pistons) x (organ_meaning meaning settled c)) made.1 done.0), subst (λ x. OrganTracks meaning settled c x (first x)) setup done.1)
   opens (Err e) made makes steps homes scopes = absurd made
-
--- a stack that is refused opens no console
-pub refuses : {C : Type 0} (meaning : C → Meaning) (settled : C → Type 0) (b : Book) (m : Meaning) (h : Result Hung Refusal) (e : Refusal) → Assembles meaning settled (keys_in b) m h (Err e) → Opens meaning settled b m h (Err e)
-refuses meaning settled b m (Ok h) e made = absurd made
-refuses meaning settled b m (Err f) e made = made

@@ -1,11 +1,10 @@
 -- The wires of one board, one after the other. Assumes nothing.
-use Rattle.std.proofs.Common.{◌≡◌, ℕ, ◌+◌, ◌<◌, ◌≤◌, Bool, true, false, cond, List, [], ◌∷◌, length, get_or, drop, pos, Ok, Err, sym, refl, ap, ◌∙◌}
-use Rattle.std.proofs.lemmas.List.{drop_more, drop_all}
+use Rattle.std.proofs.Common.{◌≡◌, ℕ, ◌+◌, ◌<◌, Bool, true, false, cond, List, [], ◌∷◌, length, get_or, drop, pos, Ok, sym, refl, ap, ◌∙◌}
+use Rattle.std.proofs.lemmas.List.{drop_more}
 use Rattle.chest.specs.Meaning.{Meaning}
 use Rattle.book.specs.declared.forms.Board.{Board}
 use Rattle.book.specs.declared.forms.Board.TheVariants.{Coupler}
 use Rattle.book.specs.declared.record.BookWire.{BookWire}
-use Rattle.board.specs.declared.fault.BoardFault.{BoardFault}
 use Rattle.board.specs.Wires.{Reaches}
 use Rattle.board.specs.Layout.{Layout, with_wire}
 use Rattle.board.specs.Fitting.{fit_answer, lead_of}
@@ -39,13 +38,6 @@ module _ (on : Board) (m : Meaning) (l : Layout) (ws : List BookWire) (n : ℕ) 
   pub fit_here : (l' : Layout) → same_board on here.board ≡ true → fit_answer l m here.wire ≡ Ok tt → l' ≡ with_wire l (lead_of here.wire) → fit_run on m l (drop n ws) ≡ fit_run on m l' rest
   fit_here l' e a is =
       step true e ∙ ap (λ x. unless_refused x here.line (fit_run on m next rest)) a ∙ ap (λ x. fit_run on m x rest) (sym is)
-
-  pub stop_here : (fault : BoardFault) → same_board on here.board ≡ true → fit_answer l m here.wire ≡ Err fault → fit_run on m l (drop n ws) ≡ Err (record { line = here.line; fault = fault })
-  stop_here fault e a = step true e ∙ ap (λ x. unless_refused x here.line (fit_run on m next rest)) a
-
--- and past the last
-pub run_end : (on : Board) (m : Meaning) (l : Layout) (ws : List BookWire) (n : ℕ) → length ws ≤ n → fit_run on m l (drop n ws) ≡ Ok l
-run_end on m l ws n h = ap (fit_run on m l) (drop_all n ws h)
 
 -- of the chest below only its reaches matter
 with_reach : Meaning → Reaches → Meaning

@@ -14,7 +14,7 @@ use Rattle.organ.specs.Opening.{Opens, book_setup}
 use Rattle.recital.specs.Described.{setup_said, hung_said, stack_said, book_hung, book_stack}
 use Rattle.organ.specs.Refused.{fault_line, refusal_line}
 use Rattle.recital.specs.Performing.{Gives, IsBook, Performs, faulty, unwired, played, ListingLaw}
-use Rattle.recital.specs.Listings.{book_listing, listing_of}
+use Rattle.recital.specs.Listings.{book_listing}
 use Rattle.recital.proofs.Descriptions.{gives_said}
 use Rattle.recital.proofs.Books.{good_read}
 use Rattle.recital.proofs.Portions.{listing_on}
@@ -53,8 +53,3 @@ listing_law text bytes given (unwired es is r hung e) =
     given_is (setup_said es) (stack_said es) (Err r) bytes given e ∙ sym (listing_on text bytes es (Err r) is.reads hung)
 listing_law text bytes given (played es is h hung v) =
     given_is (setup_said es) (stack_said es) (Ok h) bytes given v ∙ sym (listing_on text bytes es (Ok h) is.reads hung)
-
--- what is listed, for what a call returned
-pub listed : {E : Type 0} (text bytes old new : List ℕ) (r : Result Unit E) → IfOk r (λ x. (given : List ℕ) × (new ≡ old ++ given) × Performs text bytes given) → IfOk r (λ x. new ≡ old ++ listing_of text bytes)
-listed text bytes old new (Ok x) g = g.1 ∙ ap (λ l. old ++ l) (listing_law text bytes g.0 g.2)
-listed text bytes old new (Err y) g = tt

@@ -1,5 +1,5 @@
 -- What is listed: a service, the line of the refused wire, or that of the fault.
-use Rattle.std.proofs.Common.{vec_items, ap}
+use Rattle.std.proofs.Common.{◌++◌, ◌∙◌, vec_items, ap}
 use Rattle.std.proofs.lemmas.Result.{IfOk-weaker}
 use Rattle.book.specs.Asking.{pipes_in}
 use Rattle.bottom.specs.Magnet.{magnet_meaning, MagnetSettled}
@@ -8,7 +8,7 @@ use Rattle.organ.specs.Opening.{new_ranks}
 use Rattle.organ.specs.Refused.{refusal_line}
 use Rattle.recital.specs.Described.{book_hung}
 use Rattle.recital.specs.Performing.{Performs}
-use Rattle.recital.proofs.Judgements.{added, refuses, accepted, rejected, listed}
+use Rattle.recital.proofs.Judgements.{added, refuses, accepted, rejected, listing_law}
 use Rattle.recital.proofs.Services.{serves}
 use Rattle.recital.proofs.performing.perform_with.Goals as goal
 
@@ -34,7 +34,7 @@ returns-in-Ok-clause-performs c =
 
 pub returns-in-Ok-clause-items : goal.returns-in-Ok-clause-items
 returns-in-Ok-clause-items c =
-    listed c.args.text.now c.args.line.now (vec_items c.args.listing.now) (vec_items c.add_to.new.listing) c.add_to.result (returns-in-Ok-clause-performs c)
+    IfOk-weaker c.add_to.result _ _ (λ x g. g.1 ∙ ap (λ l. vec_items c.args.listing.now ++ l) (listing_law c.args.text.now c.args.line.now g.0 g.2)) (returns-in-Ok-clause-performs c)
 
 pub returns-clause-performs : goal.returns-clause-performs
 returns-clause-performs c =
