@@ -29,11 +29,11 @@ fn play(
     let mut output = rt.stdout();
     let mut portion = [0u8; PORTION];
     for _ in 0..u64::MAX {
-        let n = input.read(&mut portion)?.min(PORTION);
+        let n = input.read(&mut portion)?;
         if n == 0 {
             break;
         }
-        recital.play(&portion[0..n], listing)?;
+        recital.play(&portion[..n], listing)?;
         output.write_all(listing.as_slice())?;
         listing.clear();
     }
