@@ -8,7 +8,7 @@ use Rattle.chest.specs.Places.{Places, none, put}
 use Rattle.chest.specs.Meaning.{Panel}
 use Rattle.board.specs.declared.wire.Lead.{Lead}
 use Rattle.board.specs.Wires.{Reaches, image, through, ways_to}
-use Rattle.board.specs.Harness.{outlet, meets}
+use Rattle.board.specs.Wiring.{outlet, meets}
 use Rattle.board.specs.Laws.{either}
 use Rattle.board.proofs.Images.{image-ways, ways_free}
 use Rattle.board.proofs.Ways.{through-put}

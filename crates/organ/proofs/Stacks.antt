@@ -1,6 +1,5 @@
 -- Two boards over a chest: what their runs of wires come to, and what the stack means. Assumes nothing.
-use Rattle.std.proofs.Common.{◌≡◌, ℕ, ◌<◌, ◌≤◌, get_or, arith, Bool, true, false, cond, ltb, List, [], ◌∷◌, Ok, Err, Result, sym, refl, ap, ◌∙◌, subst, MatchResult}
-use Rattle.std.proofs.lemmas.Bool.Decides.{nat_tests}
+use Rattle.std.proofs.Common.{◌≡◌, ℕ, Bool, true, false, cond, ltb, List, [], ◌∷◌, Ok, Err, Result, sym, refl, ap, ◌∙◌, subst, MatchResult}
 use Rattle.chest.specs.Places.{none}
 use Rattle.chest.specs.Meaning.{Meaning, with_register}
 use Rattle.book.specs.declared.forms.Board.{Board}
@@ -9,7 +8,8 @@ use Rattle.book.specs.declared.record.BookWire.{BookWire}
 use Rattle.board.specs.declared.board.RelayBoard.{RelayBoard}
 use Rattle.board.specs.declared.fault.BoardFault.{BoardFault}
 use Rattle.board.specs.declared.wire.Lead.{Lead}
-use Rattle.board.specs.Wires.{Reaches, reach_of}
+use Rattle.chest.specs.Reaches.{reach_of}
+use Rattle.board.specs.Wires.{Reaches}
 use Rattle.board.specs.Layout.{Layout, layout, with_wire}
 use Rattle.board.specs.Board.{board_meaning, meaning_of, Settled}
 use Rattle.board.specs.Fitting.{fit_answer, lead_of}
@@ -18,15 +18,6 @@ use Rattle.organ.specs.declared.assembly.Refusal.{Refusal}
 use Rattle.book.specs.Asking.{same_board}
 use Rattle.organ.specs.Assembly.{unless_refused, fit_run, Hung, both, earlier_of, hang_all, stop_layout, stop_meaning, coupler_layout, stack_meaning, Assembles}
 use Rattle.organ.proofs.Runs.{run_reach}
-
--- a table of reaches that are wanted
-pub reaches_held : (table : List ℕ) (want : Reaches) → ((r : ℕ) → r < 16 → (get_or table r 0 ≡ want r) × (get_or table r 0 ≤ 128)) → ((r : ℕ) → 16 ≤ r → want r ≡ 0) → reach_of table ≡ want
-reaches_held table want there past = λ i r. one r i where
-  one : (r : ℕ) → reach_of table r ≡ want r
-  one r =
-      let is = there r in
-      let none = past r in
-      grind (arith, nat_tests)
 
 abbrev with_wires : Layout → List Lead → Layout
 with_wires l ws = record { reach = l.reach; below = l.below; wires = ws; panel = l.panel; register = l.register }
@@ -93,35 +84,35 @@ module _ {C : Type 0} (meaning : C → Meaning) (settled : C → Type 0) where
 
 -- the runs of the boards that assembling makes and fits, from what each of its calls promises
 pub record Runs {C : Type 0} (meaning : C → Meaning) (settled : C → Type 0) (keys : Reaches) (m : Meaning) (ws : List BookWire) (s0 s1 : RelayBoard C) (c0 c1 : RelayBoard (RelayBoard C)) : Type 0 where
-  pub stop : (y : Result Layout Refusal) → fit_run Stop (meaning s0.below) (layout s0.wiring) ws ≡ y → fit_run Stop m (stop_layout keys m []) ws ≡ y
-  pub coupler : (x : Result Layout Refusal) → fit_run Coupler (meaning_of meaning c0.below) (layout c0.wiring) ws ≡ x → fit_run Coupler (stop_meaning keys m []) (coupler_layout keys m []) ws ≡ x
-  pub foot : meaning s1.below ≡ with_register m none
-  pub low : meaning_of meaning c1.below ≡ with_register (meaning_of meaning s1) none
+  pub stop : (y : Result Layout Refusal) → fit_run Stop (meaning s0.below.chest) (layout s0.wiring) ws ≡ y → fit_run Stop m (stop_layout keys m []) ws ≡ y
+  pub coupler : (x : Result Layout Refusal) → fit_run Coupler (meaning_of meaning c0.below.chest) (layout c0.wiring) ws ≡ x → fit_run Coupler (stop_meaning keys m []) (coupler_layout keys m []) ws ≡ x
+  pub foot : meaning s1.below.chest ≡ with_register m none
+  pub low : meaning_of meaning c1.below.chest ≡ with_register (meaning_of meaning s1) none
   pub steady : Settled (meaning_of meaning) (Settled meaning settled) c1
 
 module _ {C : Type 0} {meaning : C → Meaning} {settled : C → Type 0} (keys : Reaches) (m : Meaning) (ws : List BookWire) (reaches : List ℕ) (s0 s1 : RelayBoard C) (c0 c1 : RelayBoard (RelayBoard C)) where
-  pub runs : reach_of reaches ≡ keys → layout s0.wiring ≡ new_layout reaches (meaning s0.below) → meaning s0.below ≡ with_register m none → Settled meaning settled s0 → (layout s1.wiring).reach ≡ (layout s0.wiring).reach → s1.below ≡ s0.below → (Settled meaning settled s0 → Settled meaning settled s1) → layout c0.wiring ≡ new_layout reaches (meaning_of meaning c0.below) → (Settled meaning settled s1 → Settled meaning settled c0.below × (meaning_of meaning c0.below ≡ with_register (meaning_of meaning s1) none)) → (Settled meaning settled s1 → Settled (meaning_of meaning) (Settled meaning settled) c0) → c1.below ≡ c0.below → (Settled (meaning_of meaning) (Settled meaning settled) c0 → Settled (meaning_of meaning) (Settled meaning settled) c1) → Runs meaning settled keys m ws s0 s1 c0 c1
+  pub runs : reach_of reaches ≡ keys → layout s0.wiring ≡ new_layout reaches (meaning s0.below.chest) → meaning s0.below.chest ≡ with_register m none → Settled meaning settled s0 → (layout s1.wiring).reach ≡ (layout s0.wiring).reach → s1.below ≡ s0.below → (Settled meaning settled s0 → Settled meaning settled s1) → layout c0.wiring ≡ new_layout reaches (meaning_of meaning c0.below.chest) → (Settled meaning settled s1 → Settled meaning settled c0.below.chest × (meaning_of meaning c0.below.chest ≡ with_register (meaning_of meaning s1) none)) → (Settled meaning settled s1 → Settled (meaning_of meaning) (Settled meaning settled) c0) → c1.below ≡ c0.below → (Settled (meaning_of meaning) (Settled meaning settled) c0 → Settled (meaning_of meaning) (Settled meaning settled) c1) → Runs meaning settled keys m ws s0 s1 c0 c1
   runs k items cleared steady reach below steady1 items2 cleared2 steady2 below2 steady3 =
-      let lay = stop_new keys m ws reaches (meaning s0.below) (layout s0.wiring) k cleared items in
+      let lay = stop_new keys m ws reaches (meaning s0.below.chest) (layout s0.wiring) k cleared items in
       let s1-steady = steady1 steady in
       let low = (cleared2 s1-steady).1 in
-      let keyed : (meaning_of meaning c0.below).reach ≡ keys = ap (λ x. x.reach) low ∙ reach ∙ ap (λ x. x.reach) lay in
-      let foot : meaning s1.below ≡ with_register m none = ap meaning below ∙ cleared in
-      let panel : (meaning_of meaning c0.below).panel ≡ m.panel = ap (λ x. x.panel) low ∙ ap (λ x. x.panel) foot in
+      let keyed : (meaning_of meaning c0.below.chest).reach ≡ keys = ap (λ x. x.reach) low ∙ reach ∙ ap (λ x. x.reach) lay in
+      let foot : meaning s1.below.chest ≡ with_register m none = ap (λ b. meaning b.chest) below ∙ cleared in
+      let panel : (meaning_of meaning c0.below.chest).panel ≡ m.panel = ap (λ x. x.panel) low ∙ ap (λ x. x.panel) foot in
       record {
-        stop = λ y. stop_run keys m ws (meaning s0.below) (layout s0.wiring) y cleared lay;
-        coupler = λ x. coupler_run keys m ws (meaning_of meaning c0.below) (layout c0.wiring) x keyed (coupler_new keys m ws reaches (meaning_of meaning c0.below) (layout c0.wiring) k keyed panel items2);
+        stop = λ y. stop_run keys m ws (meaning s0.below.chest) (layout s0.wiring) y cleared lay;
+        coupler = λ x. coupler_run keys m ws (meaning_of meaning c0.below.chest) (layout c0.wiring) x keyed (coupler_new keys m ws reaches (meaning_of meaning c0.below.chest) (layout c0.wiring) k keyed panel items2);
         foot = foot;
-        low = ap (meaning_of meaning) below2 ∙ low;
+        low = ap (λ b. meaning_of meaning b.chest) below2 ∙ low;
         steady = steady3 (steady2 s1-steady);
       }
 
   -- what assembling comes to
-  pub hangs : Runs meaning settled keys m ws s0 s1 c0 c1 → (x y : Result Unit Refusal) → MatchResult x (λ u. fit_run Coupler (meaning_of meaning c0.below) (layout c0.wiring) ws ≡ Ok (layout c1.wiring)) (λ e. fit_run Coupler (meaning_of meaning c0.below) (layout c0.wiring) ws ≡ Err e) → MatchResult y (λ u. fit_run Stop (meaning s0.below) (layout s0.wiring) ws ≡ Ok (layout s1.wiring)) (λ e. fit_run Stop (meaning s0.below) (layout s0.wiring) ws ≡ Err e) → Hangs meaning settled keys m (hang_all keys m ws) c1 (earlier_of x y)
+  pub hangs : Runs meaning settled keys m ws s0 s1 c0 c1 → (x y : Result Unit Refusal) → MatchResult x (λ u. fit_run Coupler (meaning_of meaning c0.below.chest) (layout c0.wiring) ws ≡ Ok (layout c1.wiring)) (λ e. fit_run Coupler (meaning_of meaning c0.below.chest) (layout c0.wiring) ws ≡ Err e) → MatchResult y (λ u. fit_run Stop (meaning s0.below.chest) (layout s0.wiring) ws ≡ Ok (layout s1.wiring)) (λ e. fit_run Stop (meaning s0.below.chest) (layout s0.wiring) ws ≡ Err e) → Hangs meaning settled keys m (hang_all keys m ws) c1 (earlier_of x y)
   hangs f (Ok u) (Ok v) c s =
       let cr = f.coupler _ c in
       let sr = f.stop _ s in
-      subst (λ h. Hangs meaning settled keys m h c1 (Ok tt)) (sym (hung keys m ws _ _ cr sr)) (f.steady, stack_means keys m ws (layout c1.wiring) (layout s1.wiring) (meaning s1.below) (meaning_of meaning c1.below) cr sr f.foot f.low)
+      subst (λ h. Hangs meaning settled keys m h c1 (Ok tt)) (sym (hung keys m ws _ _ cr sr)) (f.steady, stack_means keys m ws (layout c1.wiring) (layout s1.wiring) (meaning s1.below.chest) (meaning_of meaning c1.below.chest) cr sr f.foot f.low)
   hangs f (Ok u) (Err b) c s =
       subst (λ h. Hangs meaning settled keys m h c1 (Err b)) (sym (hung keys m ws _ _ (f.coupler _ c) (f.stop _ s))) refl
   hangs f (Err a) (Ok v) c s =

@@ -2,7 +2,7 @@
 ghost use Rattle.std.specs.Prelude.{◌≡◌, Ok, Err, MatchResult};
 ghost use Rattle.board.specs.Board.{Settled};
 ghost use Rattle.board.specs.Layout.{layout};
-ghost use Rattle.board.specs.Wires.{reach_of};
+ghost use Rattle.chest.specs.Reaches.{reach_of};
 ghost use Rattle.book.specs.Asking.{keys_in};
 ghost use Rattle.organ.specs.Assembly.{refusal_number, earlier_of, fit_run, hang_all, Assembles};
 
@@ -37,7 +37,7 @@ fn fit_all<C: Chest>(
     wires: &[BookWire],
     on: Board,
 ) -> Result<(), Refusal>
-    ensures cases { MatchResult result (λ _. fit_run on (C.Chest.meaning board.old.below) (layout board.old.wiring) wires.now ≡ Ok (layout board.new.wiring)) (λ e. fit_run on (C.Chest.meaning board.old.below) (layout board.old.wiring) wires.now ≡ Err e) }
+    ensures cases { MatchResult result (λ _. fit_run on (C.Chest.meaning board.old.below.chest) (layout board.old.wiring) wires.now ≡ Ok (layout board.new.wiring)) (λ e. fit_run on (C.Chest.meaning board.old.below.chest) (layout board.old.wiring) wires.now ≡ Err e) }
     ensures reach { (layout board.new.wiring).reach ≡ (layout board.old.wiring).reach }
     ensures below { board.new.below ≡ board.old.below }
     ensures settled { Settled C.Chest.meaning C.Chest.settled board.old → Settled C.Chest.meaning C.Chest.settled board.new }

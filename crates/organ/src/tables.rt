@@ -17,7 +17,7 @@ pub(crate) fn knob_table(book: &Book) -> KnobTable
     let mut table = KnobTable::new();
     for k in 0..KNOBS {
         if let Some(knob) = book.knob(k) {
-            table = table.with_knob(k, knob.steps, knob.home).unwrap_or(table);
+            table = table.with_knob(k, knob).unwrap_or(table);
         }
     }
     table
@@ -30,9 +30,7 @@ pub(crate) fn piston_table(book: &Book) -> PistonTable
     let mut table = PistonTable::new();
     for q in 0..PISTONS {
         if let Some(scope) = book.scope(q) {
-            table = table
-                .with_piston(q, scope.lowest, scope.highest)
-                .unwrap_or(table);
+            table = table.with_piston(q, scope).unwrap_or(table);
         }
     }
     table

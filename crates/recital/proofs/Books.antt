@@ -1,29 +1,17 @@
 -- The lines of a good book are read as its forms. Assumes nothing.
-use Rattle.std.proofs.Common.{◌≡◌, ℕ, ◌+◌, ◌≤◌, true, List, [], ◌∷◌, ◌++◌, length, Some, None, Ok, Option, sym, refl, ap, ◌∙◌, subst}
-use Rattle.std.specs.List.{AllByRecursion}
+use Rattle.std.proofs.Common.{◌≡◌, ℕ, ◌+◌, ◌≤◌, List, [], ◌∷◌, ◌++◌, length, Some, None, Ok, Option, sym, ap, ◌∙◌, subst}
 use Rattle.std.proofs.ByRecursion.{All-weaker}
 use Rattle.std.proofs.lemmas.List.{append-nil, append_assoc}
-use Rattle.std.proofs.lemmas.Bool.{cond-false, ne_eqb, true≢false, le-ltb}
+use Rattle.std.proofs.lemmas.Bool.{cond-false, le-ltb}
 use Rattle.book.specs.declared.forms.Form.{Form}
-use Rattle.book.specs.Bytes.{allowed, line_end}
 use Rattle.book.specs.Entries.{Entry}
 use Rattle.book.specs.Grammar.{head_in, numbers_in, form_text, text_of, entries_from, entries_of, Fits, FitAfter, Good}
 use Rattle.book.specs.Heads.{spelling}
 use Rattle.book.specs.Limits.{most_bytes}
-use Rattle.book.specs.Reading.{placed, with_line, onto_first, cut, and_then, lines_from, read_of}
-use Rattle.book.proofs.Course.{cut-some, more_lines}
+use Rattle.book.specs.Reading.{placed, with_line, cut, and_then, lines_from, read_of}
+use Rattle.book.proofs.Gluing.{Inner, allowed-inner, cut_line, cut-some}
+use Rattle.book.proofs.Course.{more_lines}
 use Rattle.book.proofs.Heading.{spelling-word, written-clean, line_complete}
-
--- a byte that does not end a line
-abbrev Inner : ℕ → Type 0
-Inner b = b ≡ line_end → ⊥
-
-allowed-inner : (b : ℕ) → allowed b ≡ true → Inner b
-allowed-inner b h e = true≢false (sym h ∙ ap allowed e)
-
-cut_line : (l rest : List ℕ) → AllByRecursion Inner l → cut (l ++ line_end ∷ rest) ≡ l ∷ cut rest
-cut_line [] rest all = refl
-cut_line (b ∷ l) rest all = cond-false _ _ _ (ne_eqb b line_end all.0) ∙ ap (onto_first b) (cut_line l rest all.1)
 
 -- the entries that a good line adds
 form_placed : (es : List Entry) (n : ℕ) (f : Form) → Fits es f → with_line es n (form_text f) ≡ Ok (es ++ record { line = n; form = f } ∷ [])

@@ -6,7 +6,7 @@ use Rattle.book.specs.declared.record.Book.{Book}
 use Rattle.book.specs.Asking.{keys_in, pipes_in, knob_in, scope_in}
 use Rattle.book.specs.Entries.{Entry, Holds, said, keys_of, pipes_of, knob_of, scope_of}
 use Rattle.book.specs.Limits.{rows, knobs, pistons}
-use Rattle.book.specs.Tables.{place_at, place_at, place_at}
+use Rattle.fittings.specs.Tables.{place_at}
 use Rattle.organ.specs.Assembly.{Hung, hang_all, stack_meaning}
 use Rattle.organ.specs.Opening.{book_setup, new_ranks}
 use Rattle.recital.specs.Described.{keys_said, pipes_said, knob_said, scope_said, setup_said, hung_said, stack_said, book_hung, book_stack}

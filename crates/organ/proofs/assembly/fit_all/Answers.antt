@@ -23,7 +23,7 @@ pub loop-wire-preserved : goal.loop-wire-preserved
 loop-wire-preserved g c =
     let meaning = g.C.Chest.meaning in
     let settled = g.C.Chest.settled in
-    let m = meaning c.args.board.now.below in
+    let m = meaning c.args.board.now.below.chest in
     let on = c.args.on in
     let ws = c.args.wires.now in
     let i = c.loop-wire.wire-index in
@@ -35,7 +35,7 @@ loop-wire-preserved g c =
     elim c.if-eq.branch [
       | then-eq+in_ok-map_err w ↦
           let fine : w.fit.result ≡ Ok tt = search rules in
-          let answer = sym fine ∙ w.fit.ensures.answer ∙ (λ j. fit_answer l (meaning (inv.2 j)) here.wire) in
+          let answer = sym fine ∙ w.fit.ensures.answer ∙ (λ j. fit_answer l (meaning (inv.2 j).chest) here.wire) in
           let items = subst (λ r. OnOk r ((w.fit.new.self.below ≡ c.loop-wire.board.below) × (layout w.fit.new.self.wiring ≡ with_wire l (lead_of here.wire)))) fine w.fit.ensures.items in
           let added = ap (λ b. layout b.wiring) w.board-is ∙ items.1 in (
             inv.0 ∙ fit_here on m l ws i c.loop-wire-test.true next (is ∙ w.if-eq.true) (sym answer) added,

@@ -8,7 +8,7 @@ use Rattle.organ.proofs.assembly.fit_all.Given as goal
 abbrev pub invariant-loop-wire : goal.invariant-loop-wire
 invariant-loop-wire g l =
     let chest = g.C.Chest in
-    let m = chest.meaning l.initial.board.below in
+    let m = chest.meaning l.initial.board.below.chest in
     (fit_run l.on m (layout l.initial.board.wiring) l.wires ≡ fit_run l.on m (layout l.board.wiring) (drop l.wire-index l.wires))
     × ((layout l.board.wiring).reach ≡ (layout l.initial.board.wiring).reach)
     × (l.board.below ≡ l.initial.board.below)

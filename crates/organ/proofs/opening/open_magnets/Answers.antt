@@ -1,9 +1,8 @@
 -- The answer for `open_magnets`: the bottom chest is new, with the ranks of the book.
 use Rattle.std.proofs.Common.{◌≤◌, rules, arith, ◌≡◌, vec_items, ap, ◌∙◌, subst}
 use Rattle.std.proofs.lemmas.Bool.Decides.{nat_tests}
-use Rattle.chest.proofs.Arrays.{from_fn_each}
-use Rattle.board.specs.Wires.{reach_of}
-use Rattle.organ.proofs.Stacks.{reaches_held}
+use Rattle.chest.proofs.Arrays.{from_fn_each, reaches_held}
+use Rattle.chest.specs.Reaches.{reach_of}
 use Rattle.book.specs.Asking.{keys_in, pipes_in}
 use Rattle.bottom.specs.Magnet.{magnet_meaning, MagnetSettled}
 use Rattle.organ.specs.Assembly.{hang_all}
