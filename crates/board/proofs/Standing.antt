@@ -56,21 +56,6 @@ module _ {C : Type 0} {meaning : C → Meaning} {settled : C → Type 0} {reach 
               );
         }
 
-    -- the place stands below as its number says
-    pub keeps-still : on ≡ nat_lt 0 (at_place a.ways r p) → Keeps meaning settled reach a b
-    keeps-still stood =
-        record {
-          stands = λ s reaches register.
-              (subst settled (sym same) s, ap meaning same ∙ ap (with_register (meaning a.chest)) (register ∙ still ∙ standing-put up a.ways b.ways r p on hr hp moves is));
-        }
-      where
-        still : standing a.ways ≡ put (standing a.ways) r p on
-        still = λ i x y. one x y i where
-          one : (x y : ℕ) → standing a.ways x y ≡ put (standing a.ways) r p on x y
-          one x y =
-              let there : x ≡ r → y ≡ p → at_place a.ways x y ≡ at_place a.ways r p = λ (g : x ≡ r) (h : y ≡ p). ap (λ n. at_place a.ways n y) g ∙ ap (at_place a.ways r) h in
-              grind (arith, nat_tests)
-
 -- no way leads past the reach of a row
 through-past : (reach : Reaches) (panel : Panel) (s : Places) (b q : ℕ) (w : Lead) → reach b ≤ q → through reach panel s b q w ≡ 0
 unfolding span

@@ -15,6 +15,7 @@ impl Wiring {
         self.keys[at.index()] = on;
     }
 
+    // A turn goes to one of 16 positions, so narrowing loses nothing.
     pub(crate) fn turn(&mut self, turn: Turn)
         ensures { layout self.new ≡ with_knob (layout self.old) turn.knob turn.to }
     {

@@ -83,6 +83,7 @@ impl<C: Chest> RelayBoard<C> {
         if usize::from(wire.position) >= POSITIONS {
             return Err(BoardFault::Position { knob });
         }
+        // each number was checked to be a byte, so narrowing loses nothing
         Ok(Lead {
             from: from as u8,
             lowest: wire.lowest as u8,

@@ -26,6 +26,7 @@ pub fn play<C: Chest + Drop>(
 {
     answers.reserve(calls.len())?;
     let mut console = Console::new(chest, knobs, pistons);
+    // a loop, since `extend` does not promise that it succeeds where there is room, nor how its closure leaves the console
     for call in calls {
         answers.push_reserved(console.perform(*call));
     }
