@@ -83,12 +83,9 @@ range_step s b h = by (cases_Bool (ltb b first_real_time)) (cases_Bool (ltb b fi
   by (inl r) (inl d) = simp (r, d) (data_range s b h (ltb-true b first_status d))
 
 -- the same of a step that was taken
-module _ (s t : State) (b : ℕ) (m : Option Message) (e : (m, t) ≡ step s b) (h : sound s ≡ true) where
-  pub fed_sound : sound t ≡ true
-  fed_sound = ap (λ (p : Option Message × State). sound p.1) e ∙ sound-step s b h
-
-  pub fed_range : IfSome m InRange
-  fed_range = subst (λ (p : Option Message × State). IfSome p.0 InRange) (sym e) (range_step s b h)
+pub fed_range : (s t : State) (b : ℕ) (m : Option Message) → (m, t) ≡ step s b → sound s ≡ true → IfSome m InRange
+fed_range s t b m e h =
+    subst (λ (p : Option Message × State). IfSome p.0 InRange) (sym e) (range_step s b h)
 
 one_more : (m : Option Message) (ms : List Message) → IfSome m InRange → AllByRecursion InRange ms → AllByRecursion InRange (option_to_list m ++ ms)
 one_more None ms h g = g
