@@ -90,7 +90,7 @@ impl Wiring {
         ensures { option_map spot result ≡ outlet (beneath self.now) (panel self.now) w key.row key.place }
     {
         let lies = usize::from(w.lowest) <= key.place && key.place <= usize::from(w.highest);
-        if self.is_live(w) && key.row == usize::from(w.from) && lies {
+        if key.row == usize::from(w.from) && lies && self.is_live(w) {
             self.landing(w, key.place)
         } else {
             None
