@@ -1,9 +1,9 @@
 -- The bytes of a listing's lines. Assumes nothing.
 use Rattle.std.specs.Prelude.{ℕ, ◌+◌, ◌*◌, ◌≤◌, List, ◌++◌, codes, decimal, Vec, vec_len, vec_capacity}
+use Rattle.book.specs.Faults as book
+use Rattle.console.specs.Faults as console
 use Rattle.organ.specs.declared.listing.Line.{Line}
 use Rattle.organ.specs.declared.listing.Line.TheVariants.{Done, Fault, Book, Wire}
-use Rattle.console.specs.Faults as console
-use Rattle.book.specs.Faults as book
 use Rattle.organ.specs.Assembly.{refusal_number}
 
 -- the closing bracket, and the byte that ends a line

@@ -1,5 +1,5 @@
 // A message of the line, answered: the call that it asks for is done, and its line is added to the listing.
-ghost use Rattle.std.specs.Prelude.{◌≡◌, ◌+◌, ◌*◌, ◌≤◌, true, length, take, is_ok, vec_len, vec_capacity, OnErr, OnOk};
+ghost use Rattle.std.specs.Prelude.{◌≡◌, true, length, take, is_ok, OnErr, OnOk};
 ghost use Rattle.console.specs.Model.{Setup, Model};
 ghost use Rattle.console.specs.Tracks.{Tracks};
 ghost use Rattle.organ.specs.Actions.{action_of};
@@ -36,6 +36,7 @@ pub fn respond<C: Chest>(
     match Action::from(message) {
         Action::Nothing => Ok(()),
         Action::Perform(call) => Line::from(console.perform(call)).add_to(listing),
+        // No key has this note, so the fault holds the note itself.
         Action::LowNote { division, note } => {
             let fault = PlayFault::Key {
                 division,
