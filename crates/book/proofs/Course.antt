@@ -10,7 +10,8 @@ use Rattle.book.specs.Entries.{Entry, Holds}
 use Rattle.book.specs.Limits.{most_bytes}
 use Rattle.book.specs.Passages.{Comes}
 use Rattle.book.specs.declared.passage.Passage.{Passage}
-use Rattle.book.proofs.Gluing.{cut-some, glued}
+pub use Rattle.book.proofs.Gluing.{cut-some}
+use Rattle.book.proofs.Gluing.{glued}
 use Rattle.book.specs.Reading.{onto_first, cut, and_then, with_line, at_end, lines_from, read_of, Answers, Fills}
 
 ends : (b : ℕ) (bs : List ℕ) → eqb b line_end ≡ true → prefix_len inside (b ∷ bs) ≡ 0
