@@ -1,8 +1,9 @@
 -- What a bottom chest keeps: its positions below 16, and its pipes below their reaches. Assumes nothing.
-use Rattle.std.proofs.Common.{◌≡◌, ℕ, ◌<◌, Bool, true, cond, ltb, get_or, replicate, sym, ap, ◌∙◌, arith}
+use Rattle.std.proofs.Common.{◌≡◌, ℕ, ◌<◌, Bool, true, get_or, replicate, sym, ap, ◌∙◌, arith}
 use Rattle.std.proofs.lemmas.Bool.Decides.{nat_tests}
 use Rattle.chest.specs.Places.{Places, put}
-use Rattle.bottom.proofs.Tables.{zeros}
+use Rattle.fittings.proofs.Filled.{filled}
+use Rattle.chest.specs.Positions.{panel_of}
 
 -- a place below its reach put into a set whose places all are
 pub put-inside : (s t : Places) (reach : ℕ → ℕ) (row place : ℕ) (on : Bool) → t ≡ put s row place on → place < reach row → ((r p : ℕ) → s r p ≡ true → p < reach r) → (r p : ℕ) → t r p ≡ true → p < reach r
@@ -13,5 +14,5 @@ put-inside s t reach row place on is low all r p h =
     grind (arith, nat_tests)
 
 -- every knob of a new chest stands at 0
-pub panel_zero : (k : ℕ) → ◌≡◌ {A = ℕ} (cond (ltb k 64) (get_or (replicate 64 0) k 0) 0) 0
-panel_zero k = let z = zeros 64 k in grind (arith, nat_tests)
+pub panel_zero : (k : ℕ) → panel_of (replicate 64 0) k ≡ 0
+panel_zero k = let z : ◌≡◌ {A = ℕ} (get_or (replicate 64 0) k 0) 0 = filled 64 k 0 in grind (arith, nat_tests)

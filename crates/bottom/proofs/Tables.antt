@@ -1,11 +1,12 @@
 -- Tables of 256 bytes as sets of places: one bit put, and how many differ between two. Assumes nothing.
-use Rattle.std.proofs.Common.{◌≡◌, ℕ, zero, suc, ◌+◌, ◌*◌, ◌/◌, ◌%◌, ◌^◌, ◌<◌, Bool, true, false, cond, eqb, ◌≢◌, List, [], ◌∷◌, length, get_or, set, replicate, sym, refl, ap, ◌∙◌, ⊎_elim, arith, get_or-set_other, get_or-set_same}
+use Rattle.std.proofs.Common.{◌≡◌, ℕ, zero, suc, ◌+◌, ◌*◌, ◌/◌, ◌%◌, ◌^◌, ◌<◌, Bool, true, false, cond, eqb, ◌≢◌, List, [], ◌∷◌, length, get_or, set, replicate, sym, ap, ◌∙◌, ⊎_elim, arith, get_or-set_other, get_or-set_same}
 use native.Mathlib.Nat.{zero-div}
 use lib.Bits.{bit_or, bit_and}
 use Rattle.std.specs.List.{sum_by, zip}
 use Rattle.std.proofs.lemmas.List.Sums.{sum_by-cons}
 use Rattle.std.proofs.lemmas.Bool.{cases_eq}
 use Rattle.std.proofs.lemmas.Bool.Decides.{nat_tests}
+use Rattle.fittings.proofs.Filled.{filled}
 use Rattle.chest.specs.Places.{none, put, differ, total, changed}
 use Rattle.chest.proofs.Totals.{total-none, total-more, total_ext, total-le, total-add, total-blocks}
 use Rattle.chest.proofs.Counts.{size-ext}
@@ -60,18 +61,13 @@ module _ (xs : List ℕ) (r p i k new : ℕ) (on : Bool) (long : length xs ≡ 2
         let other = raw-other q o in
         grind (arith, nat_tests)
 
-pub zeros : (n i : ℕ) → ◌≡◌ {A = ℕ} (get_or (replicate n 0) i 0) 0
-zeros zero i = refl
-zeros (suc n) zero = refl
-zeros (suc n) (suc i) = zeros n i
-
 -- a table of zeros shows no place
 pub shown-zeros : shown (replicate 256 0) ≡ none
 shown-zeros = λ i r p. one r p i where
   one : (r p : ℕ) → shown (replicate 256 0) r p ≡ false
   one r p =
       let off : bit_of (get_or (replicate 256 0) (16 * r + p / 8) 0) (p % 8) ≡ false
-      = ap (λ c. bit_of c (p % 8)) (zeros 256 (16 * r + p / 8)) ∙ ap (λ n. eqb (n % 2) 1) (zero-div (2 ^ (p % 8))) in
+      = ap (λ c. bit_of c (p % 8)) (filled 256 (16 * r + p / 8) 0) ∙ ap (λ n. eqb (n % 2) 1) (zero-div (2 ^ (p % 8))) in
       grind (arith, nat_tests)
 
 -- byte by byte, or place by place of each row

@@ -1,7 +1,8 @@
 -- What the part that both bottom chests share means. Assumes nothing.
-use Rattle.std.specs.Prelude.{ℕ, cond, List, nat_lt, slice_index}
+use Rattle.std.specs.Prelude.{ℕ, List}
 use Rattle.chest.specs.Places.{none}
 use Rattle.chest.specs.Meaning.{Meaning}
+use Rattle.chest.specs.Positions.{positions_of}
 use Rattle.chest.specs.Reaches.{reach_of, reaches_of}
 use Rattle.bottom.specs.declared.foot.Foot.{Foot}
 use Rattle.bottom.specs.Layout.{shown}
@@ -12,7 +13,7 @@ foot_meaning f =
     record {
       reach = reaches_of f.reaches;
       register = shown f.bits.set.bytes;
-      panel = λ k. cond (nat_lt k 64) (slice_index f.positions k) 0;
+      panel = positions_of f.positions;
       speaking = shown f.bits.speaking.bytes;
       strobes = f.strobes;
       rule = λ panel register. register;

@@ -1,5 +1,6 @@
 pub mod Faults
 pub mod Places
 pub mod Reaches
+pub mod Positions
 pub mod Meaning
 pub mod Walks

@@ -3,6 +3,7 @@ use Rattle.std.specs.Prelude.{◌≡◌, ℕ, ◌+◌, ◌%◌, ◌^◌, ◌<◌
 use Rattle.chest.specs.declared.fault.ChestFault.{ChestFault}
 use Rattle.chest.specs.declared.fault.ChestFault.TheVariants.{Knob, Position}
 use Rattle.chest.specs.Places.{Places, put}
+use Rattle.chest.specs.Positions.{position_in}
 use Rattle.chest.specs.Reaches.{reach_in, place_in}
 
 -- the position of each knob
@@ -51,7 +52,7 @@ abbrev pub reach_answer : Meaning → ℕ → Result ℕ ChestFault
 reach_answer m = reach_in m.reach
 
 abbrev pub position_answer : Meaning → ℕ → Result ℕ ChestFault
-position_answer m knob = cond (nat_lt knob 64) (Ok (m.panel knob)) (Err (Knob knob))
+position_answer m = position_in m.panel
 
 -- one place is put on or off
 abbrev pub set_answer : Meaning → ℕ → ℕ → Result Unit ChestFault

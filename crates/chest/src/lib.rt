@@ -5,6 +5,7 @@ pub mod chest;
 pub mod fault;
 pub mod laws;
 pub mod place;
+pub mod positions;
 pub mod reaches;
 pub mod sender;
 pub mod setting;

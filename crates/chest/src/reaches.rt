@@ -11,11 +11,14 @@ pub struct Reaches {
     ghost low: { (r : ℕ) → slice_index table r ≤ 128 },
 }
 
+// The most that a reach can be: it is a byte.
+const MOST: u8 = PLACES as u8;
+
 // Each number above 128 as 128.
 fn capped(table: [u8; ROWS]) -> [u8; ROWS]
     ensures { (k : ℕ) → slice_index result k ≡ min (slice_index table k) 128 }
 {
-    table.map(|reach| reach.min(PLACES as u8))
+    table.map(|reach| reach.min(MOST))
 }
 
 impl Reaches {

@@ -47,8 +47,8 @@ pub fn clear<C: Chest>(chest: &mut C)
     }
 }
 
-// The reach of a row, 0 where there is none. It is below 256, so narrowing loses nothing; `try_from` would add a case that
-// cannot be.
+// The reach of a row, 0 where there is none. A reach and a position are below 256, so narrowing loses nothing, and
+// `try_from` would add a case that cannot be.
 fn reach_at<C: Chest>(chest: &C, row: usize) -> u8
     ensures value { result ≡ (C.meaning chest.now).reach row }
     ensures bound { result ≤ 128 }

@@ -9,6 +9,7 @@ use crate::foot::Foot;
 use crate::table::PipeTable;
 use chest::chest::{KNOBS, ROWS};
 use chest::fault::ChestFault;
+use chest::positions::Positions;
 use chest::reaches::Reaches;
 use chest::setting::Setting;
 
@@ -18,7 +19,7 @@ impl Foot {
     {
         Foot {
             reaches: Reaches::new(reaches),
-            positions: [0; KNOBS],
+            positions: Positions::new([0; KNOBS]),
             strobes: 0,
             bits: Bits {
                 set: PipeTable::none(),
@@ -36,8 +37,7 @@ impl Foot {
     pub(crate) fn position(&self, knob: usize) -> Result<usize, ChestFault>
         ensures { result ≡ position_answer (foot_meaning self.now) knob }
     {
-        let position = self.positions.get(knob).ok_or(ChestFault::Knob { knob })?;
-        Ok(usize::from(*position))
+        self.positions.position(knob)
     }
 
     pub(crate) fn set(&mut self, row: usize, place: usize, on: bool) -> Result<(), ChestFault>
@@ -56,8 +56,7 @@ impl Foot {
         ensures after { foot_meaning self.new ≡ turn_after (foot_meaning self.old) knob position }
     {
         let to = Setting::new(knob, position)?;
-        // the cast loses nothing, and `try_from` would add a case that cannot be
-        self.positions[to.knob] = to.position as u8;
+        self.positions.turn(to);
         Ok(())
     }
 

@@ -1,13 +1,12 @@
-use Rattle.std.proofs.Common.{◌≡◌, sym, ap, ◌∙◌, rules, arith}
+use Rattle.std.proofs.Common.{◌≡◌, ℕ, sym, ap, ◌∙◌, rules, arith}
 use Rattle.std.proofs.lemmas.Bool.{false≢true}
 use Rattle.chest.specs.Places.{Places}
 use Rattle.chest.specs.Reaches.{reach_of, reaches_of}
 use Rattle.bottom.proofs.Kept.{panel_zero}
-use Rattle.bottom.proofs.Tables.{zeros}
 use Rattle.bottom.proofs.foot.Foot.new.Goals as goal
 
 pub invariant_of-result-clause-stands : goal.invariant_of-result-clause-stands
-invariant_of-result-clause-stands c k = omega (arith, zeros 64 k)
+invariant_of-result-clause-stands c k = omega (arith, panel_zero k, ap (λ (f : ℕ → ℕ). f k) c.new-2.ensures)
 
 pub invariant_of-result-clause-inside : goal.invariant_of-result-clause-inside
 invariant_of-result-clause-inside c r p h = absurd (false≢true (sym (ap (λ (s : Places). s r p) c.none.ensures) ∙ h))
@@ -19,7 +18,7 @@ returns c =
     record {
       reach = reach i;
       register = c.none.ensures i;
-      panel = λ k. panel_zero k i;
+      panel = (c.new-2.ensures ∙ (λ j k. panel_zero k j)) i;
       speaking = c.none-2.ensures i;
       strobes = 0;
       rule = λ panel register. register;

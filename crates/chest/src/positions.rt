@@ -1,0 +1,46 @@
+// The positions of all knobs.
+ghost use Rattle.std.specs.Prelude.{◌≡◌, ◌<◌};
+
+use crate::chest::KNOBS;
+use crate::fault::ChestFault;
+use crate::setting::Setting;
+
+#[derive(Clone, Copy)]
+pub struct Positions {
+    table: [u8; KNOBS],
+}
+
+impl Positions {
+    ghost use Rattle.chest.specs.Meaning.{knob_to};
+    ghost use Rattle.chest.specs.Positions.{panel_of, positions_of, position_in};
+
+    pub fn new(table: [u8; KNOBS]) -> Positions
+        ensures { positions_of result ≡ panel_of table }
+    {
+        Positions { table }
+    }
+
+    // The position of a knob, 0 where there is no such knob.
+    pub fn of(&self, knob: usize) -> usize
+        ensures { result ≡ positions_of self.now knob }
+    {
+        self.table
+            .get(knob)
+            .map_or(0, |position| usize::from(*position))
+    }
+
+    // The position of a knob that there is.
+    pub fn position(&self, knob: usize) -> Result<usize, ChestFault>
+        ensures { result ≡ position_in (positions_of self.now) knob }
+    {
+        let position = self.table.get(knob).ok_or(ChestFault::Knob { knob })?;
+        Ok(usize::from(*position))
+    }
+
+    // Turns a knob. A setting has one of 16 positions, so narrowing loses nothing.
+    pub fn turn(&mut self, to: Setting)
+        ensures { positions_of self.new ≡ knob_to (positions_of self.old) to.knob to.position }
+    {
+        self.table[to.knob] = to.position as u8;
+    }
+}
