@@ -3,11 +3,12 @@ use Rattle.std.specs.Prelude.{◌≡◌, ℕ, Bool, List, [], refl}
 use Rattle.std.proofs.Common.{get_or, sym, ap, subst, ◌<◌, ◌∙◌, arith}
 use Rattle.std.proofs.lemmas.Bool.Decides.{nat_tests}
 use Rattle.chest.specs.Places.{none, put}
-use Rattle.chest.specs.Meaning.{Meaning, Bounded, with_register, with_panel, knob_to}
+use Rattle.chest.specs.Meaning.{Meaning, Panel, Bounded, with_register, with_panel, knob_to}
 use Rattle.board.specs.Wires.{Reaches, image}
 use Rattle.board.specs.Layout.{Layout, with_key, with_knob, image_of}
 use Rattle.board.specs.Board.{board_meaning, Stands}
-use Rattle.board.specs.Making.{panel_of, bare, new_meaning}
+use Rattle.chest.specs.Positions.{panel_of}
+use Rattle.board.specs.Making.{bare, new_meaning}
 use Rattle.board.proofs.Images.{image-free}
 
 -- a board that is settled knows the image of its register below
@@ -47,6 +48,6 @@ positions_held m table b is = λ i k. one k i where
       let past = b.knobs k in
       grind (arith, nat_tests)
 
-pub new-board : (l : Layout) (m m' : Meaning) (reaches : List ℕ) (below : Reaches) (positions : List ℕ) → l ≡ bare reaches below positions → below ≡ m'.reach → panel_of positions ≡ m'.panel → m' ≡ with_register m none → Stands l m' × (board_meaning l m' ≡ new_meaning reaches m)
+pub new-board : (l : Layout) (m m' : Meaning) (reaches : List ℕ) (below : Reaches) (panel : Panel) → l ≡ bare reaches below panel → below ≡ m'.reach → panel ≡ m'.panel → m' ≡ with_register m none → Stands l m' × (board_meaning l m' ≡ new_meaning reaches m)
 new-board l m m' reaches below positions lay reach panel is =
     subst (λ x. Stands x m' × (board_meaning x m' ≡ new_meaning reaches m)) (sym lay) (record { reach = sym reach; panel = sym panel; register = ap (λ y. y.register) is ∙ sym (image-free m'.reach [] m'.panel none (λ r p. refl)) }, ap (board_meaning (bare reaches below positions)) is)

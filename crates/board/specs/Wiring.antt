@@ -1,5 +1,5 @@
 -- What the tables of a board hold. Assumes nothing.
-use Rattle.std.specs.Prelude.{ℕ, ◌+◌, ◌*◌, Bool, false, cond, ◌&&◌, List, Some, None, Option, ◌==◌, nat_le, nat_lt, slice_index, slice_index_or}
+use Rattle.std.specs.Prelude.{ℕ, ◌+◌, ◌*◌, Bool, false, cond, ◌&&◌, List, Some, None, Option, ◌==◌, nat_le, nat_lt, slice_index_or}
 use Rattle.std.specs.Option.{option_map}
 use Rattle.chest.specs.Places.{Places}
 use Rattle.chest.specs.Meaning.{Panel}
@@ -7,6 +7,7 @@ use Rattle.chest.specs.declared.place.Place.{Place}
 use Rattle.board.specs.declared.wire.Lead.{Lead}
 use Rattle.board.specs.declared.wire.Setting.{Setting}
 use Rattle.board.specs.declared.wiring.Wiring.{Wiring}
+use Rattle.chest.specs.Positions.{positions_of}
 use Rattle.chest.specs.Reaches.{reaches_of}
 use Rattle.board.specs.declared.swing.Swing.{Swing}
 use Rattle.board.specs.declared.swing.Swing.TheVariants.{Starts, Stops}
@@ -24,7 +25,7 @@ abbrev pub register : Wiring → Places
 register h r p = nat_lt p (own h r) && slice_index_or h.keys (128 * r + p) false
 
 abbrev pub panel : Wiring → Panel
-panel h k = cond (nat_lt k 64) (slice_index h.positions k) 0
+panel h = positions_of h.positions
 
 -- the wires that are fitted, in their order
 abbrev pub wires : Wiring → List Lead

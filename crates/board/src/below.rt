@@ -86,8 +86,8 @@ impl<C: Chest> Below<C> {
     // The ways that the wires of a knob give and take, once that knob turns.
     pub(crate) fn swing_knob(&mut self, wiring: &Wiring, turn: Turn)
         requires exact { Exact self.old.ways (layout wiring.now) }
-        requires was { (layout wiring.now).panel turn.knob ≡ turn.from }
-        ensures exact { Exact self.new.ways (with_knob (layout wiring.now) turn.knob turn.to) }
+        requires was { (layout wiring.now).panel turn.to.knob ≡ turn.from }
+        ensures exact { Exact self.new.ways (with_knob (layout wiring.now) turn.to.knob turn.to.position) }
         ensures keeps { Keeps C.Chest.meaning C.Chest.settled (layout wiring.now).below self.old self.new }
     {
         for w in wiring.leads.as_slice() {

@@ -45,12 +45,12 @@ impl<C: Chest> RelayBoard<C> {
 
     // Turns a knob that stands elsewhere.
     fn move_knob(&mut self, turn: Turn)
-        requires { (layout self.old.wiring).panel turn.knob ≡ turn.from }
-        ensures { Becomes C.Chest.meaning C.Chest.settled self.old self.new (with_panel (meaning_of C.Chest.meaning self.old) (knob_to (meaning_of C.Chest.meaning self.old).panel turn.knob turn.to)) }
+        requires { (layout self.old.wiring).panel turn.to.knob ≡ turn.from }
+        ensures { Becomes C.Chest.meaning C.Chest.settled self.old self.new (with_panel (meaning_of C.Chest.meaning self.old) (knob_to (meaning_of C.Chest.meaning self.old).panel turn.to.knob turn.to.position)) }
     {
         self.below.swing_knob(&self.wiring, turn);
-        self.wiring.turn(turn);
-        let _ = self.below.chest.turn(turn.knob, turn.to);
+        self.wiring.turn(turn.to);
+        let _ = self.below.chest.turn(turn.to.knob, turn.to.position);
     }
 }
 
@@ -89,11 +89,7 @@ impl<C: Chest> Chest for RelayBoard<C> {
         let to = Setting::new(knob, position)?;
         let from = self.wiring.position(to.knob);
         if from != to.position {
-            self.move_knob(Turn {
-                knob: to.knob,
-                from,
-                to: to.position,
-            });
+            self.move_knob(Turn { from, to });
         }
         Ok(())
     }

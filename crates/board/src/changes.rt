@@ -2,10 +2,10 @@
 ghost use Rattle.std.specs.Prelude.{◌≡◌, ◌<◌, length};
 ghost use Rattle.board.specs.Layout.{layout, with_key, with_knob, with_wire};
 
-use crate::reads::Turn;
 use crate::wire::Lead;
 use crate::wiring::Wiring;
 use chest::place::Place;
+use chest::setting::Setting;
 
 impl Wiring {
     pub(crate) fn put(&mut self, at: Place, on: bool)
@@ -15,11 +15,10 @@ impl Wiring {
         self.keys[at.index()] = on;
     }
 
-    // A turn goes to one of 16 positions, so narrowing loses nothing.
-    pub(crate) fn turn(&mut self, turn: Turn)
-        ensures { layout self.new ≡ with_knob (layout self.old) turn.knob turn.to }
+    pub(crate) fn turn(&mut self, to: Setting)
+        ensures { layout self.new ≡ with_knob (layout self.old) to.knob to.position }
     {
-        self.positions[turn.knob] = turn.to as u8;
+        self.positions.turn(to);
     }
 
     pub(crate) fn add(&mut self, lead: Lead)

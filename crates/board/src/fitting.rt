@@ -32,7 +32,7 @@ impl Wiring {
     }
 }
 
-// When the wire is live: with knob 64 always.
+// When the wire is live: with knob 64 always. The numbers were checked to be bytes.
 fn setting(wire: Wire) -> Option<Setting>
     requires { (wire.knob < 65) × (wire.position < 16) }
     ensures { result ≡ setting_of wire }

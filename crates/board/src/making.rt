@@ -1,6 +1,7 @@
 // Making a board over a chest.
 ghost use Rattle.std.specs.Prelude.{◌≡◌};
 ghost use Rattle.chest.specs.Places.{none};
+ghost use Rattle.chest.specs.Positions.{positions_of};
 ghost use Rattle.chest.specs.Reaches.{reaches_of};
 ghost use Rattle.chest.specs.Meaning.{Becomes, with_register};
 ghost use Rattle.board.specs.Layout.{layout};
@@ -11,14 +12,15 @@ use crate::below::Below;
 use crate::board::RelayBoard;
 use crate::wiring::{ALL_PLACES, Wiring};
 use arrayvec::ArrayVec;
-use chest::chest::{Chest, KNOBS, ROWS};
+use chest::chest::{Chest, ROWS};
+use chest::positions::Positions;
 use chest::reaches::Reaches;
 use chest::walks;
 
 impl Wiring {
     // No wire and no key.
-    fn bare(reaches: [u8; ROWS], below: Reaches, positions: [u8; KNOBS]) -> Wiring
-        ensures { layout result ≡ bare reaches (reaches_of below) positions }
+    fn bare(reaches: [u8; ROWS], below: Reaches, positions: Positions) -> Wiring
+        ensures { layout result ≡ bare reaches (reaches_of below) (positions_of positions) }
     {
         Wiring {
             reaches: Reaches::new(reaches),
@@ -38,7 +40,8 @@ impl<C: Chest> RelayBoard<C> {
         ensures after { C.Chest.settled below → Settled C.Chest.meaning C.Chest.settled result × (meaning_of C.Chest.meaning result ≡ new_meaning reaches (C.Chest.meaning below)) }
     {
         walks::clear(&mut below);
-        let wiring = Wiring::bare(reaches, walks::reaches(&below), walks::positions(&below));
+        let positions = Positions::new(walks::positions(&below));
+        let wiring = Wiring::bare(reaches, walks::reaches(&below), positions);
         RelayBoard {
             wiring,
             below: Below {

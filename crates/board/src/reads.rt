@@ -1,5 +1,5 @@
 // What the tables of a board answer.
-ghost use Rattle.std.specs.Prelude.{◌≡◌, ◌<◌, ◌≢◌, if◌then◌else◌, None, IfSome};
+ghost use Rattle.std.specs.Prelude.{◌≡◌, ◌≢◌, if◌then◌else◌, None, IfSome};
 ghost use Rattle.std.specs.Option.{option_map};
 ghost use Rattle.board.specs.Wires.{landing, live};
 ghost use Rattle.board.specs.Wiring.{beneath, register, panel, outlet, swing, spot};
@@ -9,41 +9,29 @@ use crate::wire::Lead;
 use crate::wiring::Wiring;
 use chest::chest::PLACES;
 use chest::place::Place;
+use chest::setting::Setting;
 use fittings::SHIFTS;
 
 // A knob that goes from one position to another.
 #[derive(Clone, Copy)]
 pub(crate) struct Turn {
-    pub knob: usize,
     pub from: usize,
-    pub to: usize,
-    ghost few: { knob < 64 },
-    ghost steps: { to < 16 },
-    ghost turns: { from ≢ to },
-}
-
-// The place that a key leads to, if a row of that reach has it.
-fn landing(raise: u8, reach: usize, key: usize) -> Option<usize>
-    requires { key < 256 }
-    ensures { result ≡ landing raise reach key }
-{
-    (key + usize::from(raise))
-        .checked_sub(usize::from(SHIFTS))
-        .filter(|place| *place < reach)
+    pub to: Setting,
+    ghost turns: { from ≢ to.position },
 }
 
 impl Lead {
     // Whether the wire starts to be live, or stops, where a knob turns.
     pub(crate) fn swing(self, turn: Turn) -> Option<Swing>
-        ensures { result ≡ swing self turn.knob turn.from turn.to }
+        ensures { result ≡ swing self turn.to.knob turn.from turn.to.position }
     {
         let setting = self.setting?;
         let position = usize::from(setting.position);
-        if usize::from(setting.knob) != turn.knob {
+        if usize::from(setting.knob) != turn.to.knob {
             None
         } else if position == turn.from {
             Some(Swing::Stops)
-        } else if position == turn.to {
+        } else if position == turn.to.position {
             Some(Swing::Starts)
         } else {
             None
@@ -62,9 +50,7 @@ impl Wiring {
     pub(crate) fn position(&self, knob: usize) -> usize
         ensures { result ≡ panel self.now knob }
     {
-        self.positions
-            .get(knob)
-            .map_or(0, |position| usize::from(*position))
+        self.positions.of(knob)
     }
 
     // Whether the knob of a wire stands where the wire waits for it.
@@ -76,20 +62,24 @@ impl Wiring {
 
     // Where a key would land through a wire.
     fn landing(&self, w: Lead, key: usize) -> Option<Place>
-        requires { key < 256 }
         ensures place { option_map (λ at. at.place) result ≡ landing w.raise (beneath self.now w.to) key }
         ensures row { IfSome result (λ at. at.row ≡ w.to) }
     {
-        let to = usize::from(w.to);
-        let place = landing(w.raise, self.below.of(to), key)?;
-        Some(Place { row: to, place })
+        let row = usize::from(w.to);
+        let raised = key.checked_add(usize::from(w.raise))?;
+        let place = raised.checked_sub(usize::from(SHIFTS))?;
+        if place < self.below.of(row) {
+            Some(Place { row, place })
+        } else {
+            None
+        }
     }
 
     // Where a key leads through a wire.
     pub(crate) fn outlet(&self, w: Lead, key: Place) -> Option<Place>
         ensures { option_map spot result ≡ outlet (beneath self.now) (panel self.now) w key.row key.place }
     {
-        let lies = usize::from(w.lowest) <= key.place && key.place <= usize::from(w.highest);
+        let lies = (usize::from(w.lowest)..=usize::from(w.highest)).contains(&key.place);
         if key.row == usize::from(w.from) && lies && self.is_live(w) {
             self.landing(w, key.place)
         } else {
@@ -99,7 +89,6 @@ impl Wiring {
 
     // Where a key of a wire lands, if it is set.
     pub(crate) fn lands(&self, w: Lead, key: usize) -> Option<Place>
-        requires { key < 256 }
         ensures place { option_map (λ at. at.place) result ≡ (if register self.now w.from key then landing w.raise (beneath self.now w.to) key else None) }
         ensures row { IfSome result (λ at. at.row ≡ w.to) }
     {

@@ -1,7 +1,8 @@
 // A wire as the board keeps it.
 pub use fittings::Wire;
 
-// The knob that a wire waits for, and the position at which it is live.
+// The knob that a wire waits for, and the position at which it is live. Not the chest's `Setting`, whose type says that
+// there is such a position: the definitions write this one down for any wire that is offered.
 #[derive(Clone, Copy, Debug, Default, PartialEq)]
 pub struct Setting {
     pub knob: u8,

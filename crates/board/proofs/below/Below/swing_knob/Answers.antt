@@ -22,7 +22,7 @@ swing_wire-requires g c b q hb hq =
     let list = c.as_slice-w-items.ensures in
     let i = c.loop-w.w-index in
     let few : length (wires h) ≤ 128 = subst (λ ws. length ws ≤ 128) list.value list.fits in
-    knob_room h turn.knob turn.from turn.to b q few c.requires.was turn.turns i (at_place c.loop-w.self.ways b q) (wire_at h _ list.value i c.loop-w-test.true) (wire_in h _ list.value i c.loop-w-test.true) (wire_is h _ list.value i c.loop-w-test.true) (c.loop-w.invariant.0 b q hb hq) c.in-Some.swing (sym c.swing.ensures ∙ c.in-Some.is)
+    knob_room h turn.to.knob turn.from turn.to.position b q few c.requires.was turn.turns i (at_place c.loop-w.self.ways b q) (wire_at h _ list.value i c.loop-w-test.true) (wire_in h _ list.value i c.loop-w-test.true) (wire_is h _ list.value i c.loop-w-test.true) (c.loop-w.invariant.0 b q hb hq) c.in-Some.swing (sym c.swing.ensures ∙ c.in-Some.is)
 
 pub loop-w-preserved : goal.loop-w-preserved
 loop-w-preserved g c =
@@ -32,8 +32,8 @@ loop-w-preserved g c =
     let i = c.loop-w.w-index in
     let w = wire_at h c.as_slice-w-items.result.now list.value i c.loop-w-test.true in
     let few : length (wires h) ≤ 128 = subst (λ ws. length ws ≤ 128) list.value list.fits in
-    let more = λ (b q : ℕ) (hb : b < 16) (hq : q < 128). knob_more h turn.knob turn.from turn.to b q few c.requires.was turn.turns i (at_place c.loop-w.self.ways b q) w (wire_in h _ list.value i c.loop-w-test.true) (wire_is h _ list.value i c.loop-w-test.true) (c.loop-w.invariant.0 b q hb hq) in
-    let stays = λ (b q : ℕ) (hb : b < 16) (hq : q < 128). knob_stays h turn.knob turn.from turn.to b q few c.requires.was turn.turns i (at_place c.loop-w.self.ways b q) w (wire_in h _ list.value i c.loop-w-test.true) (wire_is h _ list.value i c.loop-w-test.true) (c.loop-w.invariant.0 b q hb hq) in
+    let more = λ (b q : ℕ) (hb : b < 16) (hq : q < 128). knob_more h turn.to.knob turn.from turn.to.position b q few c.requires.was turn.turns i (at_place c.loop-w.self.ways b q) w (wire_in h _ list.value i c.loop-w-test.true) (wire_is h _ list.value i c.loop-w-test.true) (c.loop-w.invariant.0 b q hb hq) in
+    let stays = λ (b q : ℕ) (hb : b < 16) (hq : q < 128). knob_stays h turn.to.knob turn.from turn.to.position b q few c.requires.was turn.turns i (at_place c.loop-w.self.ways b q) w (wire_in h _ list.value i c.loop-w-test.true) (wire_is h _ list.value i c.loop-w-test.true) (c.loop-w.invariant.0 b q hb hq) in
     elim c.match-swing.branch [
       | in-Some v ↦ (
         λ b q hb hq. more b q hb hq v.in-Some.swing (sym c.swing.ensures ∙ v.in-Some.is) (at_place c.match-swing.self.ways b q) (ap (λ t. at_place t.ways b q + cond (starts v.in-Some.swing) 0 (span (beneath h) (register h) b q w)) v.self-is ∙ v.swing_wire.ensures.moves b q hb hq),

@@ -10,5 +10,5 @@ use Rattle.board.proofs.below.Below.swing_knob.Given as goal
 
 abbrev pub invariant-loop-w : goal.invariant-loop-w
 invariant-loop-w g l =
-    ((b q : ℕ) → b < 16 → q < 128 → at_place l.self.ways b q ≡ walked (through (beneath l.wiring) (knob_to (panel l.wiring) l.turn.knob l.turn.to) (register l.wiring) b q) (through (beneath l.wiring) (panel l.wiring) (register l.wiring) b q) (wires l.wiring) l.w-index)
+    ((b q : ℕ) → b < 16 → q < 128 → at_place l.self.ways b q ≡ walked (through (beneath l.wiring) (knob_to (panel l.wiring) l.turn.to.knob l.turn.to.position) (register l.wiring) b q) (through (beneath l.wiring) (panel l.wiring) (register l.wiring) b q) (wires l.wiring) l.w-index)
     × Keeps g.C.Chest.meaning g.C.Chest.settled (beneath l.wiring) l.initial.self l.self

@@ -23,10 +23,10 @@ returns g c = λ settled.
     let turn = c.args.turn in
     let m = g.C.Chest.meaning self.below.chest in
     let mid = g.C.Chest.meaning c.swing_knob.new.self.chest in
-    let new = with_knob l turn.knob turn.to in
-    let after : Meaning = with_panel (board_meaning l m) (knob_to m.panel turn.knob turn.to) in
+    let new = with_knob l turn.to.knob turn.to.position in
+    let after : Meaning = with_panel (board_meaning l m) (knob_to m.panel turn.to.knob turn.to.position) in
     let below = c.swing_knob.ensures.keeps.stands settled.0 settled.1.reach (below_is l m settled.1 ∙ sym (standing-image self.below.ways self.wiring.below l refl self.exact)) in
     let last = c.turn-2.ensures.after below.0 in
-    let done = turn_board l m settled.1 turn.knob turn.to (layout c.turn.new.self) mid c.turn.ensures (below.1 ∙ ap (with_register m) (standing-image c.swing_knob.new.self.ways self.wiring.below new refl c.swing_knob.ensures.exact)) in
-    let whole = subst (λ y. Stands (layout c.turn.new.self) y × (board_meaning (layout c.turn.new.self) y ≡ after)) (sym (last.1 ∙ turn_done mid turn.knob turn.to turn.few turn.steps)) done in
+    let done = turn_board l m settled.1 turn.to.knob turn.to.position (layout c.turn.new.self) mid c.turn.ensures (below.1 ∙ ap (with_register m) (standing-image c.swing_knob.new.self.ways self.wiring.below new refl c.swing_knob.ensures.exact)) in
+    let whole = subst (λ y. Stands (layout c.turn.new.self) y × (board_meaning (layout c.turn.new.self) y ≡ after)) (sym (last.1 ∙ turn_done mid turn.to.knob turn.to.position turn.to.knob_in turn.to.position_in)) done in
     ((last.0, whole.0), whole.1)

@@ -1,11 +1,22 @@
-use Rattle.std.proofs.Common.{sym, ◌∙◌, arith}
-use Rattle.board.proofs.Ways.{landing-below}
-use Rattle.board.proofs.Counting.{place_within}
+use Rattle.std.proofs.Common.{arith, of_calls}
+use Rattle.std.proofs.lemmas.Bool.Decides.{nat_tests}
+use Rattle.board.specs.Wires.{landing}
 use Rattle.board.proofs.wiring.Wiring.landing.Goals as goal
 
-pub invariant_of-result : goal.invariant_of-result
-invariant_of-result c =
-    let place = c.in_ok-place.place in
-    let low = landing-below c.args.w.raise c.of.result c.args.key place (sym c.landing.ensures ∙ c.in_ok-place.was) in
-    let within = place_within c.args.self.now c.from-to.result place (omega (arith, low, c.of.ensures.value)) in
-    record { row_in = within.0; place_in = within.1 }
+pub returns-in_err-raised-clause-place : goal.returns-in_err-raised-clause-place
+unfolding landing
+returns-in_err-raised-clause-place c =
+    let low = c.args.self.now.below.low c.args.w.to in
+    grind (arith, nat_tests, of_calls, c.checked_add.ensures, c.in_err-raised.ensures, c.from_residual.ensures)
+
+pub returns-in_err-place-clause-place : goal.returns-in_err-place-clause-place
+unfolding landing
+returns-in_err-place-clause-place c = grind (arith, nat_tests, of_calls, c.in_ok-raised.ensures, c.checked_sub.ensures, c.in_err-place.ensures, c.from_residual-in_err-place.ensures)
+
+pub returns-then-place-of-clause-place : goal.returns-then-place-of-clause-place
+unfolding landing
+returns-then-place-of-clause-place c = grind (arith, nat_tests, of_calls, c.in_ok-raised.ensures, c.in_ok-place.ensures, c.of.ensures.value, c.if-place-of.true)
+
+pub returns-else-place-of-clause-place : goal.returns-else-place-of-clause-place
+unfolding landing
+returns-else-place-of-clause-place c = grind (arith, nat_tests, of_calls, c.in_ok-raised.ensures, c.in_ok-place.ensures, c.of.ensures.value, c.if-place-of.false)
