@@ -83,7 +83,7 @@ pub some-past : (m n : ℕ) (f : ℕ → Bool) → m ≤ n → ((k : ℕ) → m 
 some-past m n f h none =
     some-total n f ∙ ap (ltb 0) (total-past m n (λ k. cond (f k) 1 0) h (λ k l. ap (λ x. cond x 1 0) (none k l))) ∙ sym (some-total m f)
 
--- a sum whose terms are at most one
+-- a sum whose terms are at most one: std's `sum_by-le` asks that of the elements of the list, by `All`
 pub sum-le : {X : Type 0} (f : X → ℕ) → ((x : X) → f x ≤ 1) → (xs : List X) → sum_by f xs ≤ length xs
 sum-le f small [] = omega arith
 sum-le f small (x ∷ xs) = omega (arith, sum_by-cons f x xs, sum-le f small xs, small x)

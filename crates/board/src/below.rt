@@ -76,6 +76,7 @@ impl<C: Chest> Below<C> {
         ensures moves { Moves (starts swing) self.old.ways self.new.ways (λ b q. span (layout wiring.now).below (layout wiring.now).register b q w) }
         ensures keeps { Keeps C.Chest.meaning C.Chest.settled (layout wiring.now).below self.old self.new }
     {
+        // not `..=`, whose last step stands apart: all that is proved of a step would have to be proved of that one too
         for key in usize::from(w.lowest)..usize::from(w.highest) + 1 {
             if let Some(at) = wiring.lands(w, key) {
                 self.bump(at, swing);

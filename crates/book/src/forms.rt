@@ -27,7 +27,8 @@ pub enum Board {
     Stop,
 }
 
-// Keys and ranks are two cases, since a book has two words for them and `specs/` a meaning for each.
+// The numbers stand as a book writes them after the word, and so do the definitions, which name each by its place. Keys
+// and ranks are two cases, since a book has two words for them and `specs/` a meaning for each.
 #[derive(Clone, Copy)]
 pub enum Form {
     Keys { row: u8, reach: u8 },

@@ -1,12 +1,10 @@
 // The sizes that a book is held to.
-pub use fittings::{KNOBS, PISTONS, ROWS};
+pub use fittings::{KNOBS, LEAST_STEPS, PISTONS, ROWS};
 
 // bytes of a book
 pub const MOST_BYTES: usize = 65536;
 // places of a row, keys or pipes
 pub const MOST_PLACES: usize = fittings::PLACES;
-
-pub const LEAST_STEPS: usize = 2;
 
 pub const MOST_STEPS: usize = fittings::POSITIONS;
 // wires of a book, on both boards together

@@ -13,6 +13,7 @@ fn read_form(parts: Parts) -> Result<Form, BookFault>
     ensures { (s : Shape) → parts.entry.word.now ≡ s.head → Kept parts.entry.numbers s.numbers → result ≡ form_of parts.entry.line s }
 {
     let line = parts.line;
+    // tried with `map_err` and `?`, and the proof did not close
     let Ok(head) = Head::try_from(parts.word) else {
         return Err(BookFault::Form { line });
     };

@@ -12,10 +12,11 @@ mod tests {
     type Judged = Result<(), (u8, usize)>;
 
     fn judge(heap: Global, text: &[u8]) -> Result<Judged, AllocError> {
-        match BookReader::new(heap)?.read(text) {
-            Ok(_) => Ok(Ok(())),
-            Err(fault) => Ok(Err((fault.number(), fault.line()))),
-        }
+        let read = BookReader::new(heap)?.read(text);
+        Ok(
+            read.map(|_| ())
+                .map_err(|fault| (fault.number(), fault.line())),
+        )
     }
 
     // a text, the number of its fault, and the line

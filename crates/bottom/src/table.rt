@@ -5,12 +5,13 @@ ghost use Rattle.bottom.specs.Drain.{holds};
 ghost use Rattle.bottom.specs.Layout.{shown, apart};
 ghost use Rattle.std.specs.List.{sum_by, zip};
 
+use chest::chest::{PLACES, ROWS};
 use chest::place::Place;
 
 // 16 rows of 128 places, eight places to a byte.
-pub(crate) const BYTES: usize = 256;
-
 pub(crate) const BYTE_PLACES: usize = 8;
+
+pub(crate) const BYTES: usize = ROWS * PLACES / BYTE_PLACES;
 
 #[derive(Clone, Copy)]
 pub(crate) struct PipeTable {

@@ -2,8 +2,8 @@
 ghost use Rattle.std.specs.Prelude.{◌≡◌, ℕ, ◌<◌, ◌≤◌, true, false, ◌&&◌, ◌≢◌, Some, None, IfSome, MatchOption, nat_lt, slice_index_or};
 ghost use Rattle.console.specs.Knobs.{sound, undefined_or_sound};
 
-use chest::chest::KNOBS;
-use fittings::{Knob, silent, told};
+use chest::chest::{KNOBS, POSITIONS};
+use fittings::{Knob, LEAST_STEPS, silent, told};
 
 // Each knob is undefined, or has 2 to 16 steps and a home below them.
 #[derive(Clone, Copy)]
@@ -27,7 +27,8 @@ impl KnobTable {
     pub fn with_knob(self, at: usize, knob: Knob) -> Option<KnobTable>
         ensures { MatchOption result (nat_lt at 64 && sound knob.steps knob.home ≡ false) (λ t. (nat_lt at 64 && sound knob.steps knob.home ≡ true) × (steps_of t at ≡ Some knob.steps) × (home_of t at ≡ knob.home) × ((k : ℕ) → k ≢ at → (steps_of t k ≡ steps_of self k) × (home_of t k ≡ home_of self k))) }
     {
-        let sound = (2..=16).contains(&knob.steps) && knob.home < knob.steps;
+        let steps = usize::from(knob.steps);
+        let sound = (LEAST_STEPS..=POSITIONS).contains(&steps) && knob.home < knob.steps;
         if at >= KNOBS || !sound {
             return None;
         }
@@ -53,7 +54,7 @@ impl KnobTable {
         self.knob(knob).map(|defined| usize::from(defined.steps))
     }
 
-    // The home of a knob, 0 where it is undefined.
+    // The home of a knob, 0 where it is undefined: there a new console turns it, so it is no option.
     pub fn home(&self, knob: usize) -> usize
         ensures value { result ≡ home_of self.now knob }
         ensures bound { result < 16 }

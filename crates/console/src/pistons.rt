@@ -68,10 +68,9 @@ impl PistonTable {
         ensures there { frame_of self.new piston ≡ Some positions }
         ensures others { (q : ℕ) → (q ≢ piston) → frame_of self.new q ≡ frame_of self.old q }
     {
-        self.pistons[piston] = self.pistons[piston].map(|kept| Piston {
-            frame: Some(positions),
-            ..kept
-        });
+        if let Some(kept) = &mut self.pistons[piston] {
+            kept.frame = Some(positions);
+        }
     }
 
     // The same scopes, with nothing captured.

@@ -14,7 +14,9 @@ pub const PLACES: usize = 128;
 
 pub const KNOBS: usize = 64;
 
-// Positions of a knob at most.
+// Positions of a knob, its steps, at least and at most.
+pub const LEAST_STEPS: usize = 2;
+
 pub const POSITIONS: usize = 16;
 
 pub const PISTONS: usize = 40;
@@ -22,7 +24,8 @@ pub const PISTONS: usize = 40;
 // How far a wire shifts at most, up or down.
 pub const SHIFTS: u8 = 96;
 
-// The steps of a knob, and the position it goes home to.
+// The steps of a knob, and the position it goes home to. That these fit is no part of the type, since the definitions
+// write a knob down from any numbers of a form; so with a scope.
 #[derive(Clone, Copy, Debug, PartialEq)]
 pub struct Knob {
     pub steps: u8,
