@@ -9,8 +9,8 @@ use std::io::ErrorKind;
 use std::process::ExitCode;
 use std::{fs, io};
 
-// The bytes of the file: none where it is missing. Both programs have these lines, since a call that they shared could
-// promise nothing of them.
+// The bytes of the file: none where it is missing. Both programs have these lines: a public call states its result, and
+// none can be stated of a file.
 fn book_text(rt: &HostRuntime) -> io::Result<Vec<u8>> {
     match fs::read(rt, "organ.book") {
         Err(e) if e.kind() == ErrorKind::NotFound => Ok(Vec::new(rt.alloc())),

@@ -10,8 +10,8 @@ use std::{fs, io};
 // The most bytes that are read at once.
 const PORTION: usize = 4096;
 
-// The bytes of the file: none where it is missing. Both programs have these lines, since a call that they shared could
-// promise nothing of them.
+// The bytes of the file: none where it is missing. Both programs have these lines: a public call states its result, and
+// none can be stated of a file.
 fn book_text(rt: &HostRuntime) -> io::Result<Vec<u8>> {
     match fs::read(rt, "organ.book") {
         Err(e) if e.kind() == ErrorKind::NotFound => Ok(Vec::new(rt.alloc())),
@@ -28,6 +28,7 @@ fn play(
     let mut input = rt.stdin();
     let mut output = rt.stdout();
     let mut portion = [0u8; PORTION];
+    // A loop has to have an end, and no input reaches this one.
     for _ in 0..u64::MAX {
         let n = input.read(&mut portion)?;
         if n == 0 {
@@ -51,12 +52,9 @@ fn run(rt: &HostRuntime) -> anyhow::Result<()> {
     let text = book_text(rt)?;
     let mut listing = Vec::new(rt.alloc());
     let reader = BookReader::new(rt.alloc())?;
-    match reader.read(text.as_slice()) {
-        Ok(book) => match MagnetRecital::open(&book) {
-            Ok(mut recital) => play(rt, &mut recital, &mut listing),
-            Err(refusal) => tell(rt, Line::from(refusal), &mut listing),
-        },
-        Err(fault) => tell(rt, Line::from(fault), &mut listing),
+    match MagnetRecital::open_text(reader, text.as_slice()) {
+        Ok(mut recital) => play(rt, &mut recital, &mut listing),
+        Err(line) => tell(rt, line, &mut listing),
     }
 }
 

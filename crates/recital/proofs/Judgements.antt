@@ -1,5 +1,5 @@
 -- A book that was read, and what is listed for it. Assumes nothing.
-use Rattle.std.proofs.Common.{◌≡◌, ℕ, cond, List, ◌++◌, is_ok, IfOk, Ok, Err, Result, sym, refl, ap, ◌∙◌}
+use Rattle.std.proofs.Common.{◌≡◌, ℕ, cond, List, ◌++◌, is_ok, IfOk, IsErrAnd, Ok, Err, Result, sym, refl, ap, ◌∙◌, subst}
 use Rattle.chest.specs.Meaning.{Meaning}
 use Rattle.book.specs.declared.faults.BookFault.{BookFault}
 use Rattle.book.specs.declared.record.Book.{Book}
@@ -7,13 +7,17 @@ use Rattle.book.specs.Asking.{keys_in}
 use Rattle.book.specs.Entries.{Entry}
 use Rattle.book.specs.Grammar.{Judged, entries_of}
 use Rattle.book.specs.Reading.{Answers, read_of}
+use Rattle.board.specs.declared.board.RelayBoard.{RelayBoard}
+use Rattle.bottom.specs.declared.magnet.MagnetChest.{MagnetChest}
 use Rattle.organ.specs.declared.assembly.Refusal.{Refusal}
+use Rattle.organ.specs.declared.listing.Line.{Line}
 use Rattle.organ.specs.Assembly.{Hung, stack_meaning}
 use Rattle.organ.specs.Listing.{line_bytes}
 use Rattle.organ.specs.Opening.{Opens, book_setup}
 use Rattle.recital.specs.Described.{setup_said, hung_said, stack_said, book_hung, book_stack}
 use Rattle.organ.specs.Refused.{fault_line, refusal_line}
-use Rattle.recital.specs.Performing.{Gives, IsBook, Performs, faulty, unwired, played, ListingLaw}
+use Rattle.recital.specs.declared.playing.Recital.{Recital}
+use Rattle.recital.specs.Performing.{Gives, IsBook, Performs, faulty, unwired, played, BeginsOn, ListingLaw}
 use Rattle.recital.specs.Listings.{book_listing}
 use Rattle.recital.proofs.Descriptions.{gives_said}
 use Rattle.recital.proofs.Books.{good_read}
@@ -46,6 +50,11 @@ module _ (text bytes given : List ℕ) where
 
   pub rejected : (f : BookFault) → Answers (Err f) (read_of text) → Judged (Err f) text → given ≡ line_bytes (fault_line f) → Performs text bytes given
   rejected f a j e = faulty f (record { reads = fault_is f (read_of text) a; rejects = j }) e
+
+-- no book, or none whose wires are all taken: one line, whatever the bytes
+pub refused : (text : List ℕ) (x : Result (Recital (RelayBoard (RelayBoard MagnetChest))) Line) (l : Line) → IsErrAnd x (λ m. m ≡ l) → ((bytes : List ℕ) → Performs text bytes (line_bytes l)) → BeginsOn text x
+refused text (Ok r) l e performs = absurd e
+refused text (Err m) l e performs = λ bytes. subst (λ y. Performs text bytes (line_bytes y)) (sym e) (performs bytes)
 
 pub listing_law : ListingLaw
 listing_law text bytes given (faulty f wrong e) = e ∙ sym (ap (λ x. book_listing x bytes) wrong.reads)

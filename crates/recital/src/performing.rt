@@ -4,9 +4,8 @@ ghost use Rattle.recital.specs.Listings.{listing_of};
 ghost use Rattle.recital.specs.Performing.{Performed};
 ghost use Rattle.organ.specs.Listing.{HasRoom};
 
-use crate::playing::Recital;
+use crate::playing::MagnetRecital;
 use book::BookReader;
-use organ::listing::Line;
 use std::alloc::{AllocError, Global};
 
 // Reads a book's text, plays its organ from the bytes of a line, and adds to the listing what each call came to;
@@ -22,12 +21,9 @@ pub fn perform_with(
     ensures same { OnErr result (listing.new.items ≡ listing.old.items) }
     ensures succeeds { HasRoom listing.old (length line.now + 1) → is_ok result ≡ true }
 {
-    match reader.read(text) {
-        Ok(book) => match Recital::open(&book) {
-            Ok(mut recital) => recital.play(line, listing),
-            Err(refusal) => Line::from(refusal).add_to(listing),
-        },
-        Err(fault) => Line::from(fault).add_to(listing),
+    match MagnetRecital::open_text(reader, text) {
+        Ok(mut recital) => recital.play(line, listing),
+        Err(refused) => refused.add_to(listing),
     }
 }
 

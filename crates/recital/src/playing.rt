@@ -6,16 +6,17 @@ ghost use Rattle.bottom.specs.Magnet.{magnet_meaning, MagnetSettled};
 ghost use Rattle.console.specs.Sending.{Sends, StillTracks};
 ghost use Rattle.midi.specs.Steps.{HasRead};
 ghost use Rattle.recital.specs.Playing.{Hears, GoesOn, CaughtUp, ListsOn, Begins};
+ghost use Rattle.recital.specs.Performing.{BeginsOn};
 ghost use Rattle.organ.specs.Listing.{HasRoom, OneLineMore};
 
-use book::Book;
+use book::{Book, BookReader};
 use bottom::magnet::MagnetChest;
 use chest::chest::Chest;
 use chest::sender::Sender;
 use console::console::Console;
 use midi::Reader;
 use organ::assembly::{Refusal, Stack};
-use organ::listing::LONGEST_LINE;
+use organ::listing::{LONGEST_LINE, Line};
 use organ::opening::open_magnets;
 use organ::response::respond;
 use std::alloc::AllocError;
@@ -104,5 +105,16 @@ impl Recital<Stack<MagnetChest>> {
     {
         let console = open_magnets(book)?;
         Ok(Recital::new(console))
+    }
+
+    // A recital on the organ of a book's text; or the one line that is listed for this text, whatever is played: that of
+    // its fault, or that of the first wire that its board refuses.
+    pub fn open_text(reader: BookReader, text: &[u8]) -> Result<MagnetRecital, Line>
+        ensures cases { BeginsOn text.now result }
+        ensures law { IfOk result (λ q. CaughtUp (meaning_of (meaning_of magnet_meaning)) (Settled (meaning_of magnet_meaning) (Settled magnet_meaning MagnetSettled)) q text.now []) }
+    {
+        let book = reader.read(text)?;
+        let recital = MagnetRecital::open(&book)?;
+        Ok(recital)
     }
 }
