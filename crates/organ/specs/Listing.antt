@@ -23,10 +23,18 @@ line_bytes (Fault f) = fault_bytes (console.number_of f)
 line_bytes (Book f) = place_bytes (book.number_of f) (book.line_of f)
 line_bytes (Wire r) = place_bytes (refusal_number r) r.line
 
+-- space for so many bytes
+abbrev pub HasSpace : {X Z : Type 0} → Vec X Z → ℕ → Type 0
+HasSpace listing bytes = vec_len listing + bytes ≤ vec_capacity listing
+
+-- longer by so many bytes at most, and with no less memory
+abbrev pub Grown : {X Z : Type 0} → Vec X Z → Vec X Z → ℕ → Type 0
+Grown before after bytes = (vec_len after ≤ vec_len before + bytes) × (vec_capacity before ≤ vec_capacity after)
+
 -- room for so many lines, of which none is longer than 64 bytes
 abbrev pub HasRoom : {X Z : Type 0} → Vec X Z → ℕ → Type 0
-HasRoom listing lines = vec_len listing + 64 * lines ≤ vec_capacity listing
+HasRoom listing lines = HasSpace listing (64 * lines)
 
 -- longer by one line at most, and with no less memory
 abbrev pub OneLineMore : {X Z : Type 0} → Vec X Z → Vec X Z → Type 0
-OneLineMore before after = (vec_len after ≤ vec_len before + 64) × (vec_capacity before ≤ vec_capacity after)
+OneLineMore before after = Grown before after 64

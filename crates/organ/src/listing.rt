@@ -1,6 +1,6 @@
 // The lines of a listing: what was done and what was refused.
 ghost use Rattle.std.specs.Prelude.{◌≡◌, ◌+◌, ◌≤◌, true, ◌++◌, length, is_ok, if◌then◌else◌, codes, vec_len, vec_capacity, decimal};
-ghost use Rattle.organ.specs.Listing.{line_bytes, HasRoom, OneLineMore};
+ghost use Rattle.organ.specs.Listing.{line_bytes, HasSpace, Grown, HasRoom, OneLineMore};
 ghost use Rattle.organ.specs.Refused.{fault_line, refusal_line};
 ghost use Rattle.organ.specs.Responses.{line_of};
 
@@ -26,20 +26,18 @@ pub enum Line {
 }
 
 fn push_text(listing: &mut Vec<u8>, text: &[u8])
-    requires { vec_len listing.old + length text.now ≤ vec_capacity listing.old }
+    requires { HasSpace listing.old (length text.now) }
     ensures items { listing.new.items ≡ listing.old.items ++ text.now }
-    ensures len { vec_len listing.new ≡ vec_len listing.old + length text.now }
-    ensures capacity { vec_capacity listing.old ≤ vec_capacity listing.new }
+    ensures bound { Grown listing.old listing.new (length text.now) }
 {
     listing.extend_from_slice(text).unwrap();
 }
 
 // A text and a number after it.
 fn push_field<I: Integer>(listing: &mut Vec<u8>, lead: &[u8], n: I)
-    requires { vec_len listing.old + (length lead.now + I.MAX_STR_LEN) ≤ vec_capacity listing.old }
+    requires { HasSpace listing.old (length lead.now + I.MAX_STR_LEN) }
     ensures items { listing.new.items ≡ listing.old.items ++ (lead.now ++ I.text n) }
-    ensures bound { vec_len listing.new ≤ vec_len listing.old + (length lead.now + I.MAX_STR_LEN) }
-    ensures capacity { vec_capacity listing.old ≤ vec_capacity listing.new }
+    ensures bound { Grown listing.old listing.new (length lead.now + I.MAX_STR_LEN) }
 {
     push_text(listing, lead);
     push_text(listing, Buffer::new().format(n).as_bytes());
@@ -47,10 +45,9 @@ fn push_field<I: Integer>(listing: &mut Vec<u8>, lead: &[u8], n: I)
 
 // The number of a book's fault and the line where it is.
 fn push_place(listing: &mut Vec<u8>, number: u8, line: usize)
-    requires { vec_len listing.old + 31 ≤ vec_capacity listing.old }
+    requires { HasSpace listing.old 31 }
     ensures items { listing.new.items ≡ listing.old.items ++ (codes "(fault " ++ (decimal number ++ (codes " " ++ decimal line))) }
-    ensures bound { vec_len listing.new ≤ vec_len listing.old + 31 }
-    ensures capacity { vec_capacity listing.old ≤ vec_capacity listing.new }
+    ensures bound { Grown listing.old listing.new 31 }
 {
     push_field(listing, b"(fault ", number);
     push_field(listing, b" ", line);
