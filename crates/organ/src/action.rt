@@ -16,7 +16,7 @@ const SUSTAIN: u8 = 64;
 
 const CLEAR: u8 = 123;
 
-const KNOBS: u8 = 64;
+const KNOBS: u8 = book::KNOBS as u8;
 
 #[derive(Clone, Copy, Debug, PartialEq)]
 pub enum Action {

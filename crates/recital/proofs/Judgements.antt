@@ -7,8 +7,6 @@ use Rattle.book.specs.Asking.{keys_in}
 use Rattle.book.specs.Entries.{Entry}
 use Rattle.book.specs.Grammar.{Judged, entries_of}
 use Rattle.book.specs.Reading.{Answers, read_of}
-use Rattle.board.specs.declared.board.RelayBoard.{RelayBoard}
-use Rattle.bottom.specs.declared.magnet.MagnetChest.{MagnetChest}
 use Rattle.organ.specs.declared.assembly.Refusal.{Refusal}
 use Rattle.organ.specs.declared.listing.Line.{Line}
 use Rattle.organ.specs.Assembly.{Hung, stack_meaning}
@@ -17,6 +15,7 @@ use Rattle.organ.specs.Opening.{Opens, book_setup}
 use Rattle.recital.specs.Described.{setup_said, hung_said, stack_said, book_hung, book_stack}
 use Rattle.organ.specs.Refused.{fault_line, refusal_line}
 use Rattle.recital.specs.declared.playing.Recital.{Recital}
+use Rattle.recital.specs.Playing.{MagnetStack}
 use Rattle.recital.specs.Performing.{Gives, IsBook, Performs, faulty, unwired, played, BeginsOn, ListingLaw}
 use Rattle.recital.specs.Listings.{book_listing}
 use Rattle.recital.proofs.Descriptions.{gives_said}
@@ -52,7 +51,7 @@ module _ (text bytes given : List ℕ) where
   rejected f a j e = faulty f (record { reads = fault_is f (read_of text) a; rejects = j }) e
 
 -- no book, or none whose wires are all taken: one line, whatever the bytes
-pub refused : (text : List ℕ) (x : Result (Recital (RelayBoard (RelayBoard MagnetChest))) Line) (l : Line) → IsErrAnd x (λ m. m ≡ l) → ((bytes : List ℕ) → Performs text bytes (line_bytes l)) → BeginsOn text x
+pub refused : (text : List ℕ) (x : Result (Recital MagnetStack) Line) (l : Line) → IsErrAnd x (λ m. m ≡ l) → ((bytes : List ℕ) → Performs text bytes (line_bytes l)) → BeginsOn text x
 refused text (Ok r) l e performs = absurd e
 refused text (Err m) l e performs = λ bytes. subst (λ y. Performs text bytes (line_bytes y)) (sym e) (performs bytes)
 

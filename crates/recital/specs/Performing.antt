@@ -8,10 +8,6 @@ use Rattle.book.specs.declared.forms.Form.{Form}
 use Rattle.book.specs.Entries.{Entry as Written}
 use Rattle.book.specs.Grammar.{text_of, entries_of, Good, Rejects}
 use Rattle.book.specs.Reading.{read_of}
-use Rattle.board.specs.declared.board.RelayBoard.{RelayBoard}
-use Rattle.board.specs.Board.{meaning_of, Settled}
-use Rattle.bottom.specs.declared.magnet.MagnetChest.{MagnetChest}
-use Rattle.bottom.specs.Magnet.{magnet_meaning, MagnetSettled}
 use Rattle.console.specs.Model.{Setup, first}
 use Rattle.console.specs.Record.{Entry, RecordLaw, Making}
 use Rattle.organ.specs.declared.assembly.Refusal.{Refusal}
@@ -21,7 +17,7 @@ use Rattle.organ.specs.Lines.{Outcome, AreOf, call_in, answer_in, line_in}
 use Rattle.organ.specs.Listing.{line_bytes}
 use Rattle.organ.specs.Refused.{fault_line, refusal_line}
 use Rattle.recital.specs.declared.playing.Recital.{Recital}
-use Rattle.recital.specs.Playing.{GoesOn}
+use Rattle.recital.specs.Playing.{GoesOn, MagnetStack, magnet_stack_meaning, MagnetStackSettled}
 use Rattle.recital.specs.Described.{setup_said, hung_said, stack_said}
 use Rattle.recital.specs.Listings.{listing_of}
 
@@ -70,11 +66,10 @@ abbrev pub Performed : (text bytes before after : List ℕ) → Type 0
 Performed text bytes before after = (given : List ℕ) × (after ≡ before ++ given) × Performs text bytes given
 
 -- a recital on which each list of bytes that is played performs this text; or the line that is listed whatever the bytes
-abbrev pub BeginsOn : List ℕ → Result (Recital (RelayBoard (RelayBoard MagnetChest))) Line → Type 0
+abbrev pub BeginsOn : List ℕ → Result (Recital MagnetStack) Line → Type 0
 BeginsOn text (Ok r) =
-    (q : Recital (RelayBoard (RelayBoard MagnetChest))) (bytes before after : List ℕ)
-    → GoesOn (meaning_of (meaning_of magnet_meaning)) (Settled (meaning_of magnet_meaning) (Settled magnet_meaning MagnetSettled)) r q bytes before after
-    → Performed text bytes before after
+    (q : Recital MagnetStack) (bytes before after : List ℕ)
+    → GoesOn magnet_stack_meaning MagnetStackSettled r q bytes before after → Performed text bytes before after
 BeginsOn text (Err l) = (bytes : List ℕ) → Performs text bytes (line_bytes l)
 
 -- that leaves no choice: what is listed is the listing by its definition

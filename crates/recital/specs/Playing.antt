@@ -10,6 +10,7 @@ use Rattle.book.specs.Asking.{pipes_in}
 use Rattle.book.specs.Entries.{Entry}
 use Rattle.book.specs.Reading.{read_of}
 use Rattle.board.specs.declared.board.RelayBoard.{RelayBoard}
+use Rattle.board.specs.Board.{meaning_of, Settled}
 use Rattle.bottom.specs.declared.magnet.MagnetChest.{MagnetChest}
 use Rattle.bottom.specs.Magnet.{magnet_meaning, MagnetSettled}
 use Rattle.console.specs.declared.console.Console.{Console}
@@ -62,8 +63,18 @@ module _ {C : Type 0} (meaning : C → Meaning) (settled : C → Type 0) where
     pub grows : after ≡ before ++ given
     pub more : listing_of text (line ++ bytes) ≡ listing_of text line ++ given
 
+-- coupler board and stop board over a magnet chest: what they mean, and when they are settled
+abbrev pub MagnetStack : Type 0
+MagnetStack = RelayBoard (RelayBoard MagnetChest)
+
+abbrev pub magnet_stack_meaning : MagnetStack → Meaning
+magnet_stack_meaning = meaning_of (meaning_of magnet_meaning)
+
+abbrev pub MagnetStackSettled : MagnetStack → Type 0
+MagnetStackSettled = Settled (meaning_of magnet_meaning) (Settled magnet_meaning MagnetSettled)
+
 -- a recital on the organ of a book's record over a new magnet chest, and no byte of its line is read; or the refusal
-abbrev pub Begins : Book → Result (Recital (RelayBoard (RelayBoard MagnetChest))) Refusal → Type 0
+abbrev pub Begins : Book → Result (Recital MagnetStack) Refusal → Type 0
 Begins b (Ok q) =
     Opens magnet_meaning MagnetSettled b (new_ranks (pipes_in b)) (book_hung b) (Ok q.console) × HasRead q.reader.state []
 Begins b (Err e) = Opens magnet_meaning MagnetSettled b (new_ranks (pipes_in b)) (book_hung b) (Err e)

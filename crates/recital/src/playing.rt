@@ -1,11 +1,9 @@
 // A recital: a console and the reader of its line, played as the bytes come.
 ghost use Rattle.std.specs.Prelude.{◌≡◌, ℕ, ◌+◌, ◌*◌, ◌<◌, ◌≤◌, true, List, [], length, is_ok, IfOk, Ok, vec_len, vec_capacity, MatchResult, OnErr, OnOk};
-ghost use Rattle.board.specs.Board.{meaning_of, Settled};
 ghost use Rattle.book.specs.Reading.{Answers, read_of};
-ghost use Rattle.bottom.specs.Magnet.{magnet_meaning, MagnetSettled};
 ghost use Rattle.console.specs.Sending.{Sends, StillTracks};
 ghost use Rattle.midi.specs.Steps.{HasRead};
-ghost use Rattle.recital.specs.Playing.{Hears, GoesOn, CaughtUp, ListsOn, Begins};
+ghost use Rattle.recital.specs.Playing.{Hears, GoesOn, CaughtUp, ListsOn, Begins, magnet_stack_meaning, MagnetStackSettled};
 ghost use Rattle.recital.specs.Performing.{BeginsOn};
 ghost use Rattle.organ.specs.Listing.{HasRoom, OneLineMore};
 
@@ -101,7 +99,7 @@ impl Recital<Stack<MagnetChest>> {
     // A recital on the organ of a book over a magnet chest with its ranks, or the first wire that its board refuses.
     pub fn open(book: &Book) -> Result<MagnetRecital, Refusal>
         ensures cases { Begins book.now result }
-        ensures law { IfOk result (λ q. (text : List ℕ) → Answers (Ok book.now) (read_of text) → CaughtUp (meaning_of (meaning_of magnet_meaning)) (Settled (meaning_of magnet_meaning) (Settled magnet_meaning MagnetSettled)) q text []) }
+        ensures law { IfOk result (λ q. (text : List ℕ) → Answers (Ok book.now) (read_of text) → CaughtUp magnet_stack_meaning MagnetStackSettled q text []) }
     {
         let console = open_magnets(book)?;
         Ok(Recital::new(console))
@@ -111,7 +109,7 @@ impl Recital<Stack<MagnetChest>> {
     // its fault, or that of the first wire that its board refuses.
     pub fn open_text(reader: BookReader, text: &[u8]) -> Result<MagnetRecital, Line>
         ensures cases { BeginsOn text.now result }
-        ensures law { IfOk result (λ q. CaughtUp (meaning_of (meaning_of magnet_meaning)) (Settled (meaning_of magnet_meaning) (Settled magnet_meaning MagnetSettled)) q text.now []) }
+        ensures law { IfOk result (λ q. CaughtUp magnet_stack_meaning MagnetStackSettled q text.now []) }
     {
         let book = reader.read(text)?;
         let recital = MagnetRecital::open(&book)?;
