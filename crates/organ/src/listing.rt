@@ -1,5 +1,5 @@
 // The lines of a listing: what was done and what was refused.
-ghost use Rattle.std.specs.Prelude.{◌≡◌, ◌+◌, ◌≤◌, true, ◌++◌, length, is_ok, if◌then◌else◌, codes, vec_len, vec_capacity, decimal};
+ghost use Rattle.std.specs.Prelude.{◌≡◌, ◌+◌, true, ◌++◌, length, is_ok, if◌then◌else◌, codes, decimal};
 ghost use Rattle.organ.specs.Listing.{line_bytes, HasSpace, Grown, HasRoom, OneLineMore};
 ghost use Rattle.organ.specs.Refused.{fault_line, refusal_line};
 ghost use Rattle.organ.specs.Responses.{line_of};
