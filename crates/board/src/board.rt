@@ -79,7 +79,7 @@ impl<C: Chest> Chest for RelayBoard<C> {
 
     fn set(&mut self, row: usize, place: usize, on: bool) -> Result<(), ChestFault> {
         let at = self.wiring.reaches.place(row, place)?;
-        if self.wiring.is_set(row, place) != on {
+        if self.wiring.is_set(at.row, at.place) != on {
             self.put(at, on);
         }
         Ok(())

@@ -13,7 +13,7 @@ use crate::wiring::Wiring;
 use chest::chest::{Chest, PLACES, POSITIONS, ROWS};
 use fittings::SHIFTS;
 
-// The knob of an offered wire that is always live.
+// The knob of an offered wire that is always live: a book writes a number there, and what it means is the board's to say.
 const ALWAYS: u16 = 64;
 
 impl Wiring {
@@ -32,7 +32,7 @@ impl Wiring {
     }
 }
 
-// When the wire is live: with knob 64 always. The numbers were checked to be bytes.
+// When the wire is live: with knob 64 always. The numbers were checked, so narrowing loses nothing.
 fn setting(wire: Wire) -> Option<Setting>
     requires { (wire.knob < 65) × (wire.position < 16) }
     ensures { result ≡ setting_of wire }
@@ -83,7 +83,7 @@ impl<C: Chest> RelayBoard<C> {
         if usize::from(wire.position) >= POSITIONS {
             return Err(BoardFault::Position { knob });
         }
-        // each number was checked to be a byte, so narrowing loses nothing
+        // narrowing loses nothing, since each number was checked, and `try_from` would add cases that cannot be
         Ok(Lead {
             from: from as u8,
             lowest: wire.lowest as u8,

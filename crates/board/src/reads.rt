@@ -40,7 +40,7 @@ impl Lead {
 }
 
 impl Wiring {
-    // Whether a key is set. The key may lie past every row, as those that a wire names may.
+    // Whether a key is set. It is asked by two numbers: of the keys that a wire names no type says that they are places.
     pub(crate) fn is_set(&self, row: usize, key: usize) -> bool
         ensures { result ≡ register self.now row key }
     {
@@ -53,7 +53,7 @@ impl Wiring {
         self.positions.of(knob)
     }
 
-    // Whether the knob of a wire stands where the wire waits for it.
+    // Whether a wire is live: always where it waits for no knob, else while the knob stands where it waits.
     fn is_live(&self, w: Lead) -> bool
         ensures { result ≡ live (panel self.now) w }
     {

@@ -9,7 +9,7 @@ pub struct Setting {
     pub position: u8,
 }
 
-// The shift is raised by 96, so that key + raise is place + 96.
+// The shift is raised by 96, so that key + raise is place + 96. A list of fixed capacity asks for a default.
 #[derive(Clone, Copy, Debug, Default, PartialEq)]
 pub struct Lead {
     pub from: u8,

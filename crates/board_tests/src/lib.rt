@@ -49,7 +49,7 @@ fn plays<C: Chest>(chest: &mut C, steps: &[Step]) -> bool {
     })
 }
 
-// A table with one row.
+// A table with one row. The tests of consoles have it too: a crate for these lines would be no plainer.
 fn row(reach: u8) -> [u8; 16] {
     let mut reaches = [0; 16];
     reaches[0] = reach;

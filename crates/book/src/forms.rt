@@ -27,8 +27,9 @@ pub enum Board {
     Stop,
 }
 
-// The numbers stand as a book writes them after the word, and so do the definitions, which name each by its place. Keys
-// and ranks are two cases, since a book has two words for them and `specs/` a meaning for each.
+// The numbers of a knob and of a piston stand as a book writes them, and as the grammar's definitions do, which name each
+// by its place; the record makes a `Knob` and a `Scope` of them. Keys and ranks are two cases, since a book has two words
+// for them and `specs/` a meaning for each.
 #[derive(Clone, Copy)]
 pub enum Form {
     Keys { row: u8, reach: u8 },

@@ -50,7 +50,8 @@ impl PipeTable {
     }
 }
 
-// At how many places two tables differ. It is given their bytes, since a proof knows no range of those in a field.
+// At how many places two tables differ. Tried as a method, and its proof did not close: it is given their bytes, since a
+// proof knows no range of those in a field.
 pub(crate) fn difference(these: &[u8; BYTES], others: &[u8; BYTES]) -> u32
     ensures { result ≡ changed (shown these.now) (shown others.now) }
 {

@@ -1,4 +1,4 @@
-// The positions of all knobs.
+// The positions of all knobs. Any table may be one: what keeps them below 16 is that a knob is turned by a `Setting`.
 ghost use Rattle.std.specs.Prelude.{◌≡◌, ◌<◌};
 
 use crate::chest::KNOBS;
@@ -37,7 +37,8 @@ impl Positions {
         Ok(usize::from(*position))
     }
 
-    // Turns a knob. A setting has one of 16 positions, so narrowing loses nothing.
+    // Turns a knob. A setting has one of 16 positions, so narrowing loses nothing, and `try_from` would add a case that
+    // cannot be.
     pub fn turn(&mut self, to: Setting)
         ensures { positions_of self.new ≡ knob_to (positions_of self.old) to.knob to.position }
     {

@@ -71,7 +71,7 @@ pub fn reaches<C: Chest>(chest: &C) -> Reaches
     Reaches::new(array::from_fn(|row| reach_at(chest, row)))
 }
 
-// The positions of all knobs.
+// The positions of all knobs, as the table that a piston keeps.
 pub fn positions<C: Chest>(chest: &C) -> [u8; KNOBS]
     ensures value { (k : ℕ) → k < 64 → slice_index result k ≡ (C.meaning chest.now).panel k }
     ensures bound { (k : ℕ) → slice_index result k < 16 }

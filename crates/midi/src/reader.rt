@@ -45,7 +45,7 @@ impl Reader {
         ensures law { is_ok result ≡ true → (old : List Message) (line : List ℕ) → CaughtUp old line self.old.state out.old.items → CaughtUp old (line ++ bytes.now) self.new.state out.new.items }
     {
         out.reserve(bytes.len())?;
-        // a loop, since `extend` does not promise that the room is enough, nor how its closure leaves the reader
+        // a loop: tried with `extend`, which does not promise that the room is enough, nor how its closure leaves the reader
         for byte in bytes {
             if let Some(message) = self.feed(*byte) {
                 out.push_reserved(message);

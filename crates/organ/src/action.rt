@@ -16,8 +16,10 @@ const SUSTAIN: u8 = 64;
 
 const CLEAR: u8 = 123;
 
+// A controller is a byte, as the number of knobs is.
 const KNOBS: u8 = book::KNOBS as u8;
 
+// Three cases, so neither an option nor a result.
 #[derive(Clone, Copy, Debug, PartialEq)]
 pub enum Action {
     Nothing,

@@ -60,7 +60,7 @@ impl Line {
         ensures succeeds { HasRoom listing.old 1 → is_ok result ≡ true }
         ensures bound { OneLineMore listing.old listing.new }
     {
-        // Not by `write!` and a `Display`: no contract of theirs says that they succeed where there is room.
+        // Tried by `write!` and a `Display`: no contract of theirs says that they succeed where there is room.
         listing.reserve(LONGEST_LINE)?;
         match self {
             Line::Done { count } => push_field(listing, b"(done ", count),

@@ -45,7 +45,8 @@ impl PipeTable {
         ensures bound { result ≤ length out.new }
         ensures after { UpTo count_of_places (shown speaking.now.bytes) (shown self.old.bytes) out.old (shown self.new.bytes) (take result out.new) (drop result out.new) }
     {
-        // counted by hand: of a buffer lent in chunks, to a closure or for its rest a proof knows nothing afterwards
+        // counted by hand: tried with a buffer lent in chunks or to a closure, or kept as its own rest, and then a proof
+        // knows nothing of it afterwards
         let mut written = 0;
         // by the bytes' numbers, since one of the two tables changes on the way
         for byte in 0..BYTES {
@@ -66,6 +67,7 @@ impl PipeTable {
         if self.agrees(speaking, byte) {
             return 0;
         }
+        // counted as above
         let mut written = 0;
         for bit in 0..BYTE_PLACES {
             let at = place_of(byte, bit);
