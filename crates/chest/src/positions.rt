@@ -1,4 +1,5 @@
-// The positions of all knobs. Any table may be one: what keeps them below 16 is that a knob is turned by a `Setting`.
+// The positions of all knobs. Any table may be one: what keeps them below 16 is that a knob is turned by a `Setting`. They
+// are no table of one type with `Reaches`, which refuse by other faults, have a bound and answer for places.
 ghost use Rattle.std.specs.Prelude.{◌≡◌, ◌<◌};
 
 use crate::chest::KNOBS;
