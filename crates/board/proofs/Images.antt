@@ -28,23 +28,30 @@ image-ways reach (w ∷ ws) panel s b q =
     either-above _ _ (through reach panel s b q w) (ways_to reach ws panel s b q) (through-above reach panel s b q w) (image-ways reach ws panel s b q)
     ∙ ap (ltb 0) (sym (sum_by-cons (through reach panel s b q) w ws))
 
--- no way where no key is set
-through-free : (reach : Reaches) (panel : Panel) (s : Places) (b q : ℕ) (w : Lead) → ((r p : ℕ) → s r p ≡ false) → through reach panel s b q w ≡ 0
+-- no way through a wire, or through any, that leads there from no set key
+through-none : (reach : Reaches) (panel : Panel) (s : Places) (b q : ℕ) (w : Lead) → ((k : ℕ) → way reach s w b q k ≡ false) → through reach panel s b q w ≡ 0
 unfolding span
-through-free reach panel s b q w free =
-    ap (λ n. cond (live panel w) n 0) (total-zero (w.highest + 1) (λ k. cond (way reach s w b q k) 1 0) (λ k h. let up = free w.from k in grind (arith, nat_tests))) ∙ by (live panel w) where
+through-none reach panel s b q w none =
+    ap (λ n. cond (live panel w) n 0) (total-zero (w.highest + 1) (λ k. cond (way reach s w b q k) 1 0) (λ k h. ap (λ x. cond x 1 0) (none k))) ∙ by (live panel w) where
       by : (c : Bool) → ◌≡◌ {A = ℕ} (cond c 0 0) 0
       by true = refl
       by false = refl
 
+pub ways_none : (reach : Reaches) (ws : List Lead) (panel : Panel) (s : Places) (b q : ℕ) → ((w : Lead) (k : ℕ) → way reach s w b q k ≡ false) → ways_to reach ws panel s b q ≡ 0
+ways_none reach [] panel s b q none = refl
+ways_none reach (w ∷ ws) panel s b q none =
+    omega (arith, sum_by-cons (through reach panel s b q) w ws, through-none reach panel s b q w (none w), ways_none reach ws panel s b q none)
+
+-- so where no key is set
+no-way : (reach : Reaches) (s : Places) (b q : ℕ) → ((r p : ℕ) → s r p ≡ false) → (w : Lead) (k : ℕ) → way reach s w b q k ≡ false
+no-way reach s b q free w k = let up = free w.from k in grind (arith, nat_tests)
+
 pub ways_push_free : (reach : Reaches) (ws : List Lead) (w : Lead) (panel : Panel) (s : Places) (b q : ℕ) → ((r p : ℕ) → s r p ≡ false) → ways_to reach (ws ++ w ∷ []) panel s b q ≡ ways_to reach ws panel s b q
 ways_push_free reach ws w panel s b q free =
-    omega (arith, sum_by_push (through reach panel s b q) ws w, through-free reach panel s b q w free)
+    omega (arith, sum_by_push (through reach panel s b q) ws w, through-none reach panel s b q w (no-way reach s b q free w))
 
 pub ways_free : (reach : Reaches) (ws : List Lead) (panel : Panel) (s : Places) (b q : ℕ) → ((r p : ℕ) → s r p ≡ false) → ways_to reach ws panel s b q ≡ 0
-ways_free reach [] panel s b q free = refl
-ways_free reach (w ∷ ws) panel s b q free =
-    omega (arith, sum_by-cons (through reach panel s b q) w ws, through-free reach panel s b q w free, ways_free reach ws panel s b q free)
+ways_free reach ws panel s b q free = ways_none reach ws panel s b q (no-way reach s b q free)
 
 -- the image of no keys is empty
 pub image-free : (reach : Reaches) (ws : List Lead) (panel : Panel) (s : Places) → ((r p : ℕ) → s r p ≡ false) → image reach ws panel s ≡ none

@@ -1,21 +1,19 @@
 -- The chest below as the numbers of ways have it. Assumes nothing.
-use Rattle.std.proofs.Common.{◌≡◌, ℕ, ◌+◌, ◌<◌, ◌≤◌, Bool, true, false, cond, nat_lt, List, [], ◌∷◌, sym, refl, ap, ◌∙◌, subst, arith}
-use Rattle.std.proofs.lemmas.List.Sums.{sum_by-cons}
+use Rattle.std.proofs.Common.{◌≡◌, ℕ, ◌<◌, ◌≤◌, Bool, true, false, nat_lt, List, sym, refl, ap, ◌∙◌, subst, arith}
 use Rattle.std.proofs.lemmas.Bool.Decides.{nat_tests}
 use Rattle.chest.specs.Places.{Places, put}
 use Rattle.chest.specs.Meaning.{Meaning, Panel, with_register, set_after}
 use Rattle.chest.proofs.Calls.{set-done}
-use Rattle.chest.proofs.Totals.{total-zero}
 use Rattle.chest.specs.declared.reaches.Reaches.{Reaches as Kept}
 use Rattle.chest.specs.Reaches.{reaches_of}
 use Rattle.board.specs.declared.below.Below.{Below}
 use Rattle.board.specs.declared.wire.Lead.{Lead}
-use Rattle.board.specs.Wires.{Reaches, live, way, span, through, ways_to}
+use Rattle.board.specs.Wires.{Reaches, way, ways_to}
 use Rattle.board.specs.Layout.{Layout, image_of}
 use Rattle.board.specs.Counts.{at_place, Exact, Moves, one_at}
 use Rattle.board.specs.Below.{standing, Keeps}
 use Rattle.board.proofs.Ways.{landing_is}
-use Rattle.board.proofs.Images.{image-ways}
+use Rattle.board.proofs.Images.{image-ways, ways_none}
 
 -- a place put as its number says, where no other number changed
 pub standing-put : (up : Bool) (before after : List ℕ) (r p : ℕ) (on : Bool) → r < 16 → p < 128 → Moves up before after (one_at r p) → on ≡ nat_lt 0 (at_place after r p) → put (standing before) r p on ≡ standing after
@@ -57,25 +55,13 @@ module _ {C : Type 0} {meaning : C → Meaning} {settled : C → Type 0} {reach 
         }
 
 -- no way leads past the reach of a row
-through-past : (reach : Reaches) (panel : Panel) (s : Places) (b q : ℕ) (w : Lead) → reach b ≤ q → through reach panel s b q w ≡ 0
-unfolding span
-through-past reach panel s b q w past =
-    ap (λ n. cond (live panel w) n 0) (total-zero (w.highest + 1) (λ k. cond (way reach s w b q k) 1 0) (λ k h. none k)) ∙ by (live panel w)
-  where
-    none : (k : ℕ) → ◌≡◌ {A = ℕ} (cond (way reach s w b q k) 1 0) 0
-    none k =
-        let lands = landing_is w.raise (reach w.to) k q in
-        let row : b ≡ w.to → reach b ≡ reach w.to = λ e. ap reach e in
-        grind (arith, nat_tests)
-
-    by : (c : Bool) → ◌≡◌ {A = ℕ} (cond c 0 0) 0
-    by true = refl
-    by false = refl
-
 ways-past : (reach : Reaches) (ws : List Lead) (panel : Panel) (s : Places) (b q : ℕ) → reach b ≤ q → ways_to reach ws panel s b q ≡ 0
-ways-past reach [] panel s b q past = refl
-ways-past reach (w ∷ ws) panel s b q past =
-    omega (arith, sum_by-cons (through reach panel s b q) w ws, through-past reach panel s b q w past, ways-past reach ws panel s b q past)
+ways-past reach ws panel s b q past = ways_none reach ws panel s b q none where
+  none : (w : Lead) (k : ℕ) → way reach s w b q k ≡ false
+  none w k =
+      let lands = landing_is w.raise (reach w.to) k q in
+      let row : b ≡ w.to → reach b ≡ reach w.to = λ e. ap reach e in
+      grind (arith, nat_tests)
 
 -- exact numbers stand as the image
 pub standing-image : (ways : List ℕ) (t : Kept) (l : Layout) → l.below ≡ reaches_of t → Exact ways l → standing ways ≡ image_of l

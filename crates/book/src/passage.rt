@@ -22,7 +22,7 @@ impl<'a> Passage<'a> {
     }
 
     // Takes the first line off, with its end, or nothing where no line end is left.
-    pub fn take_line(&mut self) -> Option<Passage<'a>>
+    pub(crate) fn take_line(&mut self) -> Option<Passage<'a>>
         requires { self.old.line + length self.old.text.now ≤ most_bytes + 1 }
         ensures { Comes self.old result self.new }
     {
