@@ -1,5 +1,6 @@
 pub mod Bytes
 pub mod Tables
+pub mod Counted
 pub mod Kept
 pub mod Pending
 pub mod Draining

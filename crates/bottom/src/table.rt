@@ -1,9 +1,8 @@
 // A bit for each place of a chest.
-ghost use Rattle.std.specs.Prelude.{◌≡◌, ℕ, ◌+◌, ◌*◌, ◌<◌, ◌^◌, true, false};
-ghost use Rattle.chest.specs.Places.{none, put, differ, changed};
+ghost use Rattle.std.specs.Prelude.{◌≡◌, ℕ, ◌+◌, ◌*◌, ◌<◌, true, false};
+ghost use Rattle.chest.specs.Places.{none, put, differ};
 ghost use Rattle.bottom.specs.Drain.{holds};
-ghost use Rattle.bottom.specs.Layout.{shown, apart};
-ghost use Rattle.std.specs.List.{sum_by, zip};
+ghost use Rattle.bottom.specs.Layout.{shown};
 
 use chest::chest::{PLACES, ROWS};
 use chest::place::Place;
@@ -48,24 +47,4 @@ impl PipeTable {
     {
         self.bytes.get(byte) == other.bytes.get(byte)
     }
-}
-
-// At how many places two tables differ. Tried as a method, and its proof did not close: it is given their bytes, since a
-// proof knows no range of those in a field.
-pub(crate) fn difference(these: &[u8; BYTES], others: &[u8; BYTES]) -> u32
-    ensures { result ≡ changed (shown these.now) (shown others.now) }
-{
-    bits_apart(these, others)
-}
-
-// At how many bits the bytes of two tables differ.
-fn bits_apart(these: &[u8], others: &[u8]) -> u32
-    requires { sum_by apart (zip these.now others.now) < 2 ^ 32 }
-    ensures { result ≡ sum_by apart (zip these.now others.now) }
-{
-    these
-        .iter()
-        .zip(others)
-        .map(|(this, other)| (this ^ other).count_ones())
-        .sum()
 }

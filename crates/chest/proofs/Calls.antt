@@ -1,9 +1,10 @@
 -- Calls that pass their checks. Assumes nothing.
-use Rattle.std.proofs.Common.{◌≡◌, ℕ, ◌<◌, Bool, cond, is_ok, Ok, Result, ap, ◌∙◌, arith}
+use Rattle.std.proofs.Common.{◌≡◌, ℕ, ◌<◌, Bool, true, cond, is_ok, Ok, Result, ap, ◌∙◌, arith}
+use Rattle.std.specs.Bool.{beq}
 use Rattle.std.specs.Result.{result_unwrap_or}
 use Rattle.std.proofs.lemmas.Bool.Decides.{nat_tests}
 use Rattle.chest.specs.declared.fault.ChestFault.{ChestFault}
-use Rattle.chest.specs.Places.{put}
+use Rattle.chest.specs.Places.{Places, put}
 use Rattle.chest.specs.Meaning.{Meaning, reach_answer, set_answer, set_after, turn_answer, turn_after, with_register, with_panel, knob_to}
 
 pub reach_is : (m : Meaning) (row n : ℕ) (r : Result ℕ ChestFault) → row < 16 → r ≡ reach_answer m row → n ≡ result_unwrap_or r 0 → n ≡ m.reach row
@@ -28,3 +29,11 @@ turn_done m knob position h k =
   where
     passes : turn_answer knob position ≡ Ok tt
     passes = grind (arith, nat_tests)
+
+-- a place put as it stands changes nothing
+pub put-still : (s : Places) (row place : ℕ) (on was : Bool) → was ≡ s row place → beq was on ≡ true → s ≡ put s row place on
+put-still s row place on was stood stays = λ i r p. one r p i where
+  one : (r p : ℕ) → s r p ≡ put s row place on r p
+  one r p =
+      let there : r ≡ row → p ≡ place → s r p ≡ s row place = λ er ep i. s (er i) (ep i) in
+      grind (arith, nat_tests)

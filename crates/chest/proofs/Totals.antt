@@ -3,10 +3,6 @@ use Rattle.std.proofs.Common.{◌≡◌, ℕ, zero, suc, ◌+◌, ◌*◌, ◌<�
 use Rattle.std.proofs.lemmas.Bool.{cases_eq}
 use Rattle.chest.specs.Places.{total}
 
-pub total-none : (f : ℕ → ℕ) → total 0 f ≡ 0
-unfolding total
-total-none f = refl
-
 pub total-more : (n : ℕ) (f : ℕ → ℕ) → total (n + 1) f ≡ total n f + f n
 unfolding total
 total-more n f = ap (λ m. total m f) (add-one n)
@@ -62,10 +58,3 @@ total-add m zero f = ap (λ n. total n f) (add-zero m) ∙ sym (add-zero (total 
 total-add m (suc w) f =
     ap (λ n. total n f) (add-suc m w) ∙ ap (λ t. t + f (m + w)) (total-add m w f)
     ∙ add_assoc (total m f) (total w (λ k. f (m + k))) (f (m + w))
-
--- n blocks of w terms
-pub total-blocks : (n w : ℕ) (f : ℕ → ℕ) → total (n * w) f ≡ total n (λ i. total w (λ k. f (i * w + k)))
-unfolding total
-total-blocks zero w f = ap (λ m. total m f) (zero-mul w)
-total-blocks (suc n) w f =
-    ap (λ m. total m f) (suc-mul n w) ∙ total-add (n * w) w f ∙ ap (λ t. t + total w (λ k. f (n * w + k))) (total-blocks n w f)

@@ -6,7 +6,6 @@ ghost use Rattle.bottom.specs.Foot.{foot_meaning, new_bottom};
 
 use crate::bits::Bits;
 use crate::foot::Foot;
-use crate::table::PipeTable;
 use chest::chest::{KNOBS, ROWS};
 use chest::fault::ChestFault;
 use chest::positions::Positions;
@@ -21,10 +20,7 @@ impl Foot {
             reaches: Reaches::new(reaches),
             positions: Positions::new([0; KNOBS]),
             strobes: 0,
-            bits: Bits {
-                set: PipeTable::none(),
-                speaking: PipeTable::none(),
-            },
+            bits: Bits::none(),
         }
     }
 

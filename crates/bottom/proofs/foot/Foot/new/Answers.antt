@@ -9,7 +9,7 @@ pub invariant_of-result-clause-stands : goal.invariant_of-result-clause-stands
 invariant_of-result-clause-stands c k = omega (arith, panel_zero k, ap (λ (f : ℕ → ℕ). f k) c.new-2.ensures)
 
 pub invariant_of-result-clause-inside : goal.invariant_of-result-clause-inside
-invariant_of-result-clause-inside c r p h = absurd (false≢true (sym (ap (λ (s : Places). s r p) c.none.ensures) ∙ h))
+invariant_of-result-clause-inside c r p h = absurd (false≢true (sym (ap (λ (s : Places). s r p) c.none.ensures.set) ∙ h))
 
 pub returns : goal.returns
 returns c =
@@ -17,9 +17,9 @@ returns c =
     λ i.
     record {
       reach = reach i;
-      register = c.none.ensures i;
+      register = c.none.ensures.set i;
       panel = (c.new-2.ensures ∙ (λ j k. panel_zero k j)) i;
-      speaking = c.none-2.ensures i;
+      speaking = c.none.ensures.speaking i;
       strobes = 0;
       rule = λ panel register. register;
     }
