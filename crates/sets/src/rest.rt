@@ -1,0 +1,35 @@
+// What is left of a set while its numbers are taken one by one.
+ghost use Rattle.std.specs.Prelude.{◌≡◌, ◌<◌, IfSome};
+ghost use Rattle.sets.specs.Sets.{PopsFirst};
+
+use crate::set::WORD;
+use crate::word::Word;
+
+// The word that is walked, and the high word while that is the low one. Not a set that shrinks: then a processor would hold
+// both words in one register, and take each number out of that.
+#[derive(Clone, Copy)]
+pub struct Rest {
+    pub(crate) word: Word,
+    pub(crate) later: Option<Word>,
+}
+
+impl Rest {
+    ghost use Rattle.sets.specs.Members.{remaining};
+
+    // Takes out the least number.
+    pub fn pop_first(&mut self) -> Option<usize>
+        ensures value { PopsFirst (remaining self.old) (remaining self.new) result }
+        ensures bound { IfSome result (λ number. number < 128) }
+    {
+        if let Some(number) = self.word.pop_first() {
+            return Some(if self.later.is_some() {
+                number
+            } else {
+                WORD + number
+            });
+        }
+        self.word = self.later.take()?;
+        let number = self.word.pop_first()?;
+        Some(WORD + number)
+    }
+}
