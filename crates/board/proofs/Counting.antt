@@ -1,20 +1,23 @@
 -- The steps of the walks that count ways. Assumes nothing.
-use Rattle.std.proofs.Common.{◌≡◌, ℕ, ◌+◌, ◌<◌, ◌≤◌, Bool, true, false, cond, not, ◌&&◌, eqb, ◌≢◌, List, length, get_or, Some, None, Option, sym, refl, ap, ◌∙◌, subst, arith}
-use Rattle.std.proofs.lemmas.List.{get_or_default}
-use Rattle.std.proofs.lemmas.Bool.{false≢true}
+use Rattle.std.proofs.Common.{◌≡◌, ℕ, ◌+◌, ◌<◌, ◌≤◌, Bool, true, false, cond, not, ◌&&◌, eqb, ◌≢◌, List, length, get_or, Some, None, Option, is_some, nat_le, ⊎_elim, sym, refl, ap, ◌∙◌, arith}
+use Rattle.std.proofs.lemmas.Bool.{false≢true, cases_Bool}
 use Rattle.std.proofs.lemmas.Bool.Decides.{nat_tests}
 use Rattle.chest.specs.Places.{total, put}
 use Rattle.chest.specs.Meaning.{knob_to}
-use Rattle.chest.proofs.Totals.{total-zero, total-more}
+use Rattle.chest.proofs.Totals.{total-zero}
 use Rattle.board.specs.declared.wire.Lead.{Lead}
 use Rattle.board.specs.declared.wiring.Wiring.{Wiring}
 use Rattle.board.specs.declared.swing.Swing.{Swing}
 use Rattle.board.specs.Swings.{starts}
-use Rattle.board.specs.Wires.{landing, is_at, way, span, through}
-use Rattle.board.specs.Wiring.{beneath, register, panel, wires, outlet, meets, swing}
+use Rattle.board.specs.Wires.{landing, is_at, leads, span, through}
+use Rattle.board.specs.Wiring.{beneath, register, panel, wires, outlet, meets, swing, swing_of}
 use Rattle.board.specs.Counts.{at_place, Fits, Moves, Room}
-use Rattle.board.proofs.Sums.{total-part, total-past, walked, walked_more, walked-le}
-use Rattle.board.proofs.Ways.{Swung, outlet-below, through-one, through-put, through-swing, way-is, way-low, way-high}
+use Rattle.board.proofs.Sums.{mixed, mixed_more, mixed-le, left_more}
+use Rattle.sets.specs.Sets.{Numbers, nothing, PopsFirst}
+use Rattle.board.specs.Index.{blank, waits, waits_for}
+use Rattle.board.specs.declared.wire.Setting.{Setting}
+use Rattle.board.specs.declared.swing.Swing.TheVariants.{Starts, Stops}
+use Rattle.board.proofs.Ways.{Swung, outlet-below, through-one, through-put, through-swing, span-keys, leads-is}
 
 by_hit : (x y was on : Bool) (new old n m : ℕ) → was ≡ not on → x ≡ y → new + cond (x && was) 1 0 ≡ old + cond (x && on) 1 0 → m + old ≡ n + new → m + cond on 0 (cond y 1 0) ≡ n + cond on (cond y 1 0) 0
 by_hit x y was on new old n m other same one more = grind (arith, nat_tests)
@@ -25,15 +28,14 @@ by_room false true n m e moved most = (omega arith, omega arith)
 by_room true false n m e moved most = absurd (false≢true e)
 by_room false false n m e moved most = absurd (false≢true e)
 
--- two moves after each other
-by_steps : (up : Bool) (x y z m d n : ℕ) → y + cond up 0 m ≡ x + cond up m 0 → z + cond up 0 d ≡ y + cond up d 0 → n ≡ m + d → z + cond up 0 n ≡ x + cond up n 0
-by_steps true x y z m d n one two all = omega arith
-by_steps false x y z m d n one two all = omega arith
+-- a way more or less of those that are left
+by_left : (up : Bool) (before now after hit all rest : ℕ) → now + cond up (rest + hit) all ≡ before + cond up all (rest + hit) → after + cond up 0 hit ≡ now + cond up hit 0 → after + cond up rest all ≡ before + cond up all rest
+by_left true before now after hit all rest inv moved = omega arith
+by_left false before now after hit all rest inv moved = omega arith
 
--- one more of a move that has room
-by_part : (up : Bool) (x y m n : ℕ) → y + cond up 0 m ≡ x + cond up m 0 → m + 1 ≤ n → Fits up x n → Fits up y 1
-by_part true x y m n inv part room = (omega arith, omega arith)
-by_part false x y m n inv part room = (omega arith, omega arith)
+by_space : (up : Bool) (before now all rest : ℕ) → now + cond up rest all ≡ before + cond up all rest → rest ≤ all → 0 < rest → Fits up before all → Fits up now 1
+by_space true before now all rest inv most some room = (omega arith, omega arith)
+by_space false before now all rest inv most some room = (omega arith, omega arith)
 
 by_swing : (o : Option Swing) (new old by m n : ℕ) → Swung o new old by → m + old ≡ n + new → Swung o m n by
 by_swing None new old by m n one more = omega arith
@@ -43,22 +45,7 @@ by_limit : (up : Bool) (m n by : ℕ) → m + cond up 0 by ≡ n + cond up by 0 
 by_limit true m n by moved few many = (omega arith, omega arith)
 by_limit false m n by moved few many = (omega arith, omega arith)
 
--- a lead that leads nowhere
-abbrev pub blank : Lead
-blank = record { from = 0; lowest = 0; highest = 0; to = 0; raise = 0; setting = None }
-
 module _ (h : Wiring) where
-  -- the wire that a walk over the leads is at
-  module _ (xs : List Lead) (same : xs ≡ wires h) (i : ℕ) (l : i < length xs) where
-    abbrev pub wire_at : Lead
-    wire_at = get_or xs i blank
-
-    pub wire_in : i < length (wires h)
-    wire_in = subst (λ ws. i < length ws) same l
-
-    pub wire_is : get_or (wires h) i wire_at ≡ wire_at
-    wire_is = get_or_default (wires h) i wire_at blank wire_in ∙ ap (λ ws. get_or ws i blank) (sym same)
-
   -- a place of a row below that has places
   pub place_within : (b q : ℕ) → q < beneath h b → (b < 16) × (q < 128)
   place_within b q l = let low = h.below.low b in (grind (arith, nat_tests), grind (arith, nat_tests))
@@ -69,19 +56,18 @@ module _ (h : Wiring) where
 
   module _ (row key : ℕ) (on : Bool) (b q : ℕ) where
     -- how many ways a wire has after the key is put, and before
-    abbrev key_new : Lead → ℕ
+    abbrev pub key_new : Lead → ℕ
     key_new = through (beneath h) (panel h) (put (register h) row key on) b q
 
-    abbrev key_old : Lead → ℕ
+    abbrev pub key_old : Lead → ℕ
     key_old = through (beneath h) (panel h) (register h) b q
 
-    module _ (room : length (wires h) ≤ 128) (other : register h row key ≡ not on) (i n : ℕ) (w : Lead) (l : i < length (wires h)) (at : get_or (wires h) i w ≡ w) (inv : n ≡ walked key_new key_old (wires h) i) (o : Option (ℕ × ℕ)) (is : outlet (beneath h) (panel h) w row key ≡ o) where
+    module _ (other : register h row key ≡ not on) (s t : Numbers) (k n : ℕ) (l : k < length (wires h)) (pops : PopsFirst s t (Some k)) (inv : n ≡ mixed key_new key_old (wires h) s) (o : Option (ℕ × ℕ)) (is : outlet (beneath h) (panel h) (get_or (wires h) k blank) row key ≡ o) where
       -- the key's way through the wire comes, or goes
-      step : walked key_new key_old (wires h) (i + 1) + cond on 0 (cond (meets o b q) 1 0) ≡ n + cond on (cond (meets o b q) 1 0) 0
+      step : mixed key_new key_old (wires h) t + cond on 0 (cond (meets o b q) 1 0) ≡ n + cond on (cond (meets o b q) 1 0) 0
       step =
-          let more = walked_more key_new key_old (wires h) i w l in
-          let new_is = ap key_new at in
-          let old_is = ap key_old at in
+          let w = get_or (wires h) k blank in
+          let more = mixed_more key_new key_old (wires h) s t k blank l h.few pops in
           let one = through-put (beneath h) (panel h) (register h) row key on b q w in
           let hit = ap (λ x. meets x b q) is in
           by_hit (meets (outlet (beneath h) (panel h) w row key) b q) (meets o b q) (register h row key) on (key_new w) (key_old w) n _ other hit one (omega arith)
@@ -89,87 +75,117 @@ module _ (h : Wiring) where
       -- there is room for a way more, or there is a way to take
       pub key_room : meets o b q ≡ true → Fits on n 1
       key_room hit =
-          let most = walked-le key_new key_old (wires h) (through-one (beneath h) (panel h) (put (register h) row key on) b q) (through-one (beneath h) (panel h) (register h) b q) (i + 1) in
-          by_room on (meets o b q) n _ hit step (omega (arith, most))
+          by_room on (meets o b q) n _ hit step (mixed-le key_new key_old (wires h) t (through-one (beneath h) (panel h) (put (register h) row key on) b q) (through-one (beneath h) (panel h) (register h) b q))
 
       -- a wire more is walked
-      pub key_more : (m : ℕ) → m + cond on 0 (cond (meets o b q) 1 0) ≡ n + cond on (cond (meets o b q) 1 0) 0 → m ≡ walked key_new key_old (wires h) (i + 1)
+      pub key_more : (m : ℕ) → m + cond on 0 (cond (meets o b q) 1 0) ≡ n + cond on (cond (meets o b q) 1 0) 0 → m ≡ mixed key_new key_old (wires h) t
       key_more m moved = omega (arith, step, moved)
 
+    -- a wire that leads nowhere from the key, or is not live, has the ways that it had
+    pub key_same : register h row key ≡ not on → (w : Lead) → is_some (outlet (beneath h) (panel h) w row key) ≡ false → key_new w ≡ key_old w
+    key_same other w nowhere =
+        let one = through-put (beneath h) (panel h) (register h) row key on b q w in
+        let gone = misses (outlet (beneath h) (panel h) w row key) nowhere in
+        grind (arith, nat_tests)
+      where
+        misses : (o : Option (ℕ × ℕ)) → is_some o ≡ false → meets o b q ≡ false
+        misses None e = refl
+        misses (Some t) e = absurd (false≢true (sym e))
+
   module _ (w : Lead) (up : Bool) where
-    -- the way of one key of a wire
+    -- the way of one key of a wire, and those of the keys of a set
     abbrev pub term : ℕ → ℕ → ℕ → ℕ
-    term b q key = cond (way (beneath h) (register h) w b q key) 1 0
+    term b q key = cond (leads (beneath h) w b q key) 1 0
 
-    pub wire_none : (table : List ℕ) (n : ℕ) → n ≤ w.lowest → Moves up table table (λ b q. total n (term b q))
-    wire_none table n below b q hb hq =
-        ap (λ m. at_place table b q + cond up 0 m) none ∙ sym (ap (λ m. at_place table b q + cond up m 0) none ∙ both)
+    abbrev pub terms : Numbers → ℕ → ℕ → ℕ
+    terms s b q = total 128 (λ k. cond (s k) (term b q k) 0)
+
+    -- from one table to the other the ways of the wire are counted, but for those of the keys that are left
+    abbrev pub Left : List ℕ → List ℕ → Numbers → Type 0
+    Left before now rest =
+        (b q : ℕ) → b < 16 → q < 128 → (at_place now b q + cond up (terms rest b q) (span (beneath h) (register h) b q w) ≡ at_place before b q + cond up (span (beneath h) (register h) b q w) (terms rest b q)) × (terms rest b q ≤ span (beneath h) (register h) b q w)
+
+    span_is : (b q : ℕ) → span (beneath h) (register h) b q w ≡ terms (register h w.from) b q
+    span_is b q = span-keys (beneath h) (register h) b q w (λ k l. past k l)
       where
-        none : total n (term b q) ≡ 0
-        none = total-zero n (term b q) (λ k l. ap (λ x. cond x 1 0) (way-low (beneath h) (register h) w k b q (omega arith)))
+        past : (k : ℕ) → 128 ≤ k → register h w.from k ≡ false
+        past k l = ⊎_elim (λ (is : register h w.from k ≡ true). absurd (let in_reach = h.held w.from k is in let low = h.reaches.low w.from in grind (arith, nat_tests))) (λ (no : register h w.from k ≡ false). no) (cases_Bool (register h w.from k))
 
-        both : at_place table b q + cond up 0 0 ≡ at_place table b q + cond up 0 0
-        both = refl
-
-    pub wire_stays : (table after : List ℕ) → after ≡ table → Moves up table after (λ b q. cond (eqb b w.to && is_at None q) 1 0)
-    wire_stays table after same b q hb hq =
-        ap (λ t. at_place t b q + cond up 0 (nothing b)) same ∙ ap (λ n. at_place table b q + cond up 0 n) (none b) ∙ sym (ap (λ n. at_place table b q + cond up n 0) (none b) ∙ both)
+    pub wire_start : (table : List ℕ) (rest : Numbers) → rest ≡ register h w.from → Left table table rest
+    wire_start table rest is b q hb hq =
+        let all = span_is b q ∙ ap (λ s. terms s b q) (sym is) in
+        (ap (λ n. at_place table b q + cond up (terms rest b q) n) all ∙ sym (ap (λ n. at_place table b q + cond up n (terms rest b q)) all ∙ both up (terms rest b q)), omega (arith, all))
       where
-        nothing : ℕ → ℕ
-        nothing b = cond (eqb b w.to && false) 1 0
+        both : (c : Bool) (n : ℕ) → at_place table b q + cond c n n ≡ at_place table b q + cond c n n
+        both c n = refl
 
-        none : (b : ℕ) → nothing b ≡ 0
-        none b = grind (arith, nat_tests)
+    -- a key that does not land gives no way
+    pub wire_stays : (table : List ℕ) → Moves up table table (λ b q. cond (eqb b w.to && is_at None q) 1 0)
+    wire_stays table b q hb hq =
+        ap (λ n. at_place table b q + cond up 0 n) (none (eqb b w.to)) ∙ sym (ap (λ n. at_place table b q + cond up n 0) (none (eqb b w.to)) ∙ both up)
+      where
+        none : (c : Bool) → ◌≡◌ {A = ℕ} (cond (c && false) 1 0) 0
+        none true = refl
+        none false = refl
 
-        both : at_place table b q + cond up 0 0 ≡ at_place table b q + cond up 0 0
-        both = refl
+        both : (c : Bool) → at_place table b q + cond c 0 0 ≡ at_place table b q + cond c 0 0
+        both c = refl
 
-    pub wire_all : (before after : List ℕ) (key : ℕ) → w.highest + 1 ≤ key → Moves up before after (λ b q. total key (term b q)) → Moves up before after (λ b q. span (beneath h) (register h) b q w)
-    unfolding span
-    wire_all before after key l inv b q hb hq =
-        let past = total-past (w.highest + 1) key (term b q) l (λ k m. ap (λ x. cond x 1 0) (way-high (beneath h) (register h) w k b q (omega arith))) in
-        ap (λ n. at_place after b q + cond up 0 n) (sym past) ∙ inv b q hb hq ∙ ap (λ n. at_place before b q + cond up n 0) past
+    pub wire_all : (before after : List ℕ) (rest : Numbers) → rest ≡ nothing → Left before after rest → Moves up before after (λ b q. span (beneath h) (register h) b q w)
+    wire_all before after rest none left b q hb hq =
+        let inv = (left b q hb hq).0 in
+        let gone : terms rest b q ≡ 0 = ap (λ s. terms s b q) none ∙ total-zero 128 (λ k. 0) (λ k l. refl) in
+        ap (λ n. at_place after b q + cond up n (span (beneath h) (register h) b q w)) (sym gone) ∙ inv ∙ ap (λ n. at_place before b q + cond up (span (beneath h) (register h) b q w) n) gone
 
-    module _ (key : ℕ) (low : w.lowest ≤ key) (high : key < w.highest + 1) (o : Option ℕ) (is : cond (register h w.from key) (landing w.raise (beneath h w.to) key) None ≡ o) where
-      term_is : (b q : ℕ) → term b q key ≡ cond (eqb b w.to && is_at o q) 1 0
-      term_is b q = ap (λ c. cond c 1 0) (way-is (beneath h) (register h) w key b q o is low (omega arith))
+    module _ (s t : Numbers) (key : ℕ) (within : key < 128) (pops : PopsFirst s t (Some key)) (o : Option ℕ) (is : cond (nat_le w.lowest key && nat_le key w.highest) (landing w.raise (beneath h w.to) key) None ≡ o) where
+      parts : (b q : ℕ) → terms s b q ≡ terms t b q + cond (eqb b w.to && is_at o q) 1 0
+      parts b q = left_more s t key (term b q) within pops ∙ ap (λ c. terms t b q + cond c 1 0) (leads-is (beneath h) w key b q o is)
 
-      pub wire_more : (before table after : List ℕ) → Moves up before table (λ b q. total key (term b q)) → Moves up table after (λ b q. cond (eqb b w.to && is_at o q) 1 0) → Moves up before after (λ b q. total (key + 1) (term b q))
-      wire_more before table after inv moved b q hb hq =
-          by_steps up _ _ _ _ _ _ (inv b q hb hq) (moved b q hb hq) (omega (arith, total-more key (term b q), term_is b q))
+      pub wire_more : (before now after : List ℕ) → Left before now s → Moves up now after (λ b q. cond (eqb b w.to && is_at o q) 1 0) → Left before after t
+      wire_more before now after left moved b q hb hq =
+          let part = parts b q in
+          let inv = left b q hb hq in
+          (by_left up _ (at_place now b q) _ (cond (eqb b w.to && is_at o q) 1 0) _ _ (ap (λ n. at_place now b q + cond up n (span (beneath h) (register h) b q w)) (sym part) ∙ inv.0 ∙ ap (λ n. at_place before b q + cond up (span (beneath h) (register h) b q w) n) part) (moved b q hb hq), omega (arith, part, inv.1))
 
-      pub wire_room : (before table : List ℕ) (b q : ℕ) → b < 16 → q < 128 → (eqb b w.to && is_at o q) ≡ true → Moves up before table (λ x y. total key (term x y)) → Room up before (λ x y. span (beneath h) (register h) x y w) → Fits up (at_place table b q) 1
-      unfolding span
-      wire_room before table b q hb hq hit inv room =
-          let part = total-part (key + 1) (w.highest + 1) (term b q) (omega arith) in
-          let one : term b q key ≡ 1 = term_is b q ∙ ap (λ c. cond c 1 0) hit in
-          by_part up _ _ _ (total (w.highest + 1) (term b q)) (inv b q hb hq) (omega (arith, part, one, total-more key (term b q))) (room b q hb hq)
+      pub wire_room : (before now : List ℕ) (b q : ℕ) → b < 16 → q < 128 → (eqb b w.to && is_at o q) ≡ true → Left before now s → Room up before (λ x y. span (beneath h) (register h) x y w) → Fits up (at_place now b q) 1
+      wire_room before now b q hb hq hit inv room =
+          let one : ◌≡◌ {A = ℕ} (cond (eqb b w.to && is_at o q) 1 0) 1 = ap (λ c. cond c 1 0) hit in
+          by_space up _ _ _ (terms s b q) (inv b q hb hq).0 (inv b q hb hq).1 (omega (arith, parts b q, one)) (room b q hb hq)
 
   module _ (knob from to b q : ℕ) where
     -- how many ways a wire has after the knob is turned, and before
-    abbrev knob_new : Lead → ℕ
+    abbrev pub knob_new : Lead → ℕ
     knob_new = through (beneath h) (knob_to (panel h) knob to) (register h) b q
 
-    abbrev knob_old : Lead → ℕ
+    abbrev pub knob_old : Lead → ℕ
     knob_old = through (beneath h) (panel h) (register h) b q
 
-    module _ (room : length (wires h) ≤ 128) (was : panel h knob ≡ from) (turns : from ≢ to) (i n : ℕ) (w : Lead) (l : i < length (wires h)) (at : get_or (wires h) i w ≡ w) (inv : n ≡ walked knob_new knob_old (wires h) i) where
-      -- the ways of the wire come, or go, or stay
-      swing-step : (o : Option Swing) → swing w knob from to ≡ o → Swung o (walked knob_new knob_old (wires h) (i + 1)) n (span (beneath h) (register h) b q w)
-      swing-step o is =
-          let more = walked_more knob_new knob_old (wires h) i w l in
-          let new_is = ap knob_new at in
-          let old_is = ap knob_old at in
-          by_swing o (knob_new w) (knob_old w) _ _ _ (through-swing (beneath h) (panel h) (register h) knob from to b q w was turns o is) (omega arith)
+    module _ (was : panel h knob ≡ from) (turns : from ≢ to) where
+      -- a wire that does not wait for the knob has the ways that it had
+      pub knob_same : (w : Lead) → waits knob w ≡ false → knob_new w ≡ knob_old w
+      knob_same w other = through-swing (beneath h) (panel h) (register h) knob from to b q w was turns None (still w.setting other) where
+        still : (t : Option Setting) → waits_for knob t ≡ false → swing_of t knob from to ≡ None
+        still None e = refl
+        still (Some t) e = ap (λ c. cond c (cond (eqb t.position from) (Some Stops) (cond (eqb t.position to) (Some Starts) None)) None) e
 
-      pub knob_stays : swing w knob from to ≡ None → n ≡ walked knob_new knob_old (wires h) (i + 1)
-      knob_stays is = sym (swing-step None is)
+      module _ (s t : Numbers) (k n : ℕ) (l : k < length (wires h)) (pops : PopsFirst s t (Some k)) (inv : n ≡ mixed knob_new knob_old (wires h) s) where
+        abbrev pub turned : Lead
+        turned = get_or (wires h) k blank
 
-      module _ (up : Swing) (is : swing w knob from to ≡ Some up) where
-        pub knob_room : Fits (starts up) n (span (beneath h) (register h) b q w)
-        knob_room =
-            let most : (j : ℕ) → walked knob_new knob_old (wires h) j ≤ length (wires h) = walked-le knob_new knob_old (wires h) (through-one (beneath h) (knob_to (panel h) knob to) (register h) b q) (through-one (beneath h) (panel h) (register h) b q) in
-            by_limit (starts up) _ _ _ (swing-step (Some up) is) (omega (arith, most i)) (omega (arith, most (i + 1)))
+        -- the ways of the wire come, or go, or stay
+        swing-step : (o : Option Swing) → swing turned knob from to ≡ o → Swung o (mixed knob_new knob_old (wires h) t) n (span (beneath h) (register h) b q turned)
+        swing-step o is =
+            let more = mixed_more knob_new knob_old (wires h) s t k blank l h.few pops in
+            by_swing o (knob_new turned) (knob_old turned) _ _ _ (through-swing (beneath h) (panel h) (register h) knob from to b q turned was turns o is) (omega arith)
 
-        pub knob_more : (m : ℕ) → m + cond (starts up) 0 (span (beneath h) (register h) b q w) ≡ n + cond (starts up) (span (beneath h) (register h) b q w) 0 → m ≡ walked knob_new knob_old (wires h) (i + 1)
-        knob_more m moved = let step : Swung (Some up) (walked knob_new knob_old (wires h) (i + 1)) n (span (beneath h) (register h) b q w) = swing-step (Some up) is in omega arith
+        pub knob_stays : swing turned knob from to ≡ None → n ≡ mixed knob_new knob_old (wires h) t
+        knob_stays is = sym (swing-step None is)
+
+        module _ (up : Swing) (is : swing turned knob from to ≡ Some up) where
+          pub knob_room : Fits (starts up) n (span (beneath h) (register h) b q turned)
+          knob_room =
+              let most : (j : Numbers) → mixed knob_new knob_old (wires h) j ≤ 128 = λ j. mixed-le knob_new knob_old (wires h) j (through-one (beneath h) (knob_to (panel h) knob to) (register h) b q) (through-one (beneath h) (panel h) (register h) b q) in
+              by_limit (starts up) _ _ _ (swing-step (Some up) is) (omega (arith, most s)) (most t)
+
+          pub knob_more : (m : ℕ) → m + cond (starts up) 0 (span (beneath h) (register h) b q turned) ≡ n + cond (starts up) (span (beneath h) (register h) b q turned) 0 → m ≡ mixed knob_new knob_old (wires h) t
+          knob_more m moved = let step : Swung (Some up) (mixed knob_new knob_old (wires h) t) n (span (beneath h) (register h) b q turned) = swing-step (Some up) is in omega arith

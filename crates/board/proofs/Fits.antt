@@ -1,6 +1,6 @@
 -- The checks of a wire, and a board with one wire more. Assumes nothing.
 use Rattle.std.proofs.Common.{◌≡◌, ℕ, ◌<◌, Bool, true, false, cond, not, ltb, List, [], ◌∷◌, ◌++◌, length, is_ok, IfErr, Ok, Err, Result, sym, refl, ap, ◌∙◌, arith}
-use Rattle.std.proofs.lemmas.Bool.{both_ways, and_parts, ltb-true, lt-ltb}
+use Rattle.std.proofs.lemmas.Bool.{both_ways, lt-ltb}
 use Rattle.std.proofs.lemmas.Bool.Decides.{nat_tests}
 use Rattle.chest.specs.Meaning.{Meaning}
 use Rattle.board.specs.declared.wire.Lead.{Lead}
@@ -55,7 +55,8 @@ free_of h free r p = by (register h r p) refl where
   by : (b : Bool) → register h r p ≡ b → b ≡ false
   by false e = refl
   by true e =
-      let low : p < own h r = ltb-true p (own h r) (and_parts _ _ e).0 in
+      let low : p < own h r = h.held r p e in
+      let most = h.reaches.low r in
       let row : r < 16 = grind (arith, nat_tests) in
       let place : p < 128 = grind (arith, nat_tests) in
       let found = some-found 16 r (λ x. some 128 (register h x)) row (some-found 128 p (register h r) place e) in

@@ -7,3 +7,5 @@ pub mod Standing
 pub mod Boards
 pub mod Fits
 pub mod Shown
+pub mod Among
+pub mod Indexes

@@ -2,9 +2,10 @@
 use Rattle.std.specs.Prelude.{◌≡◌, ℕ, ◌+◌, ◌-◌, ◌<◌, ◌≤◌, Bool, true, false, cond, ◌&&◌, ◌≢◌, Some, None, Option, ◌==◌, nat_eq, nat_le, nat_lt, refl}
 use Rattle.std.proofs.Common.{sym, ap, subst, ◌∙◌, arith}
 use Rattle.std.specs.Option.{option_map}
-use Rattle.std.proofs.lemmas.Bool.{cond_both, le-leb, and_from, eqb-true}
+use Rattle.std.proofs.lemmas.Bool.{cond_both, eqb-true}
 use Rattle.std.proofs.lemmas.Bool.Decides.{nat_tests}
-use Rattle.chest.specs.Places.{Places, put}
+use Rattle.chest.specs.Places.{Places, total, put}
+use Rattle.chest.proofs.Totals.{total_ext}
 use Rattle.chest.specs.Meaning.{Panel, knob_to}
 use Rattle.board.specs.declared.wire.Lead.{Lead}
 use Rattle.board.specs.declared.wire.Setting.{Setting}
@@ -13,7 +14,7 @@ use Rattle.board.specs.declared.swing.Swing.{Swing}
 use Rattle.board.specs.declared.swing.Swing.TheVariants.{Starts, Stops}
 use Rattle.board.specs.Swings.{starts}
 use Rattle.board.specs.Wiring.{outlet, meets, swing, swing_of}
-use Rattle.board.proofs.Sums.{total-change, total-once}
+use Rattle.board.proofs.Sums.{total-change, total-once, total-past}
 
 -- a key lands at place q if key + shift is q, and q below the reach
 pub landing_is : (raise reach key q : ℕ) → is_at (landing raise reach key) q ≡ (key + raise == q + 96 && nat_lt q reach)
@@ -73,32 +74,42 @@ through-put reach panel s row key on b q w =
     let at = outlet-is reach panel w row key b q in
     grind (arith, nat_tests)
 
--- a key's way is the place where it lands, if it is set
-pub way-is : (reach : Reaches) (s : Places) (w : Lead) (key b q : ℕ) (o : Option ℕ) → cond (s w.from key) (landing w.raise (reach w.to) key) None ≡ o → w.lowest ≤ key → key ≤ w.highest → way reach s w b q key ≡ (b == w.to && is_at o q)
-way-is reach s w key b q o e low high =
-    ap (λ c. s w.from key && (c && there)) (and_from (nat_le w.lowest key) (nat_le key w.highest) (le-leb w.lowest key low) (le-leb key w.highest high))
-    ∙ by (s w.from key) (landing w.raise (reach w.to) key)
-    ∙ ap (λ x. (b == w.to) && is_at x q) e
+-- the ways of a wire, by the keys of its row
+pub span-keys : (reach : Reaches) (s : Places) (b q : ℕ) (w : Lead) → ((k : ℕ) → 128 ≤ k → s w.from k ≡ false) → span reach s b q w ≡ total 128 (λ k. cond (s w.from k) (cond (leads reach w b q k) 1 0) 0)
+unfolding span
+span-keys reach s b q w past =
+    sym (total-past (w.highest + 1) (w.highest + 1 + 128) f (omega arith) high) ∙ total-past 128 (w.highest + 1 + 128) f (omega arith) (λ k l. none (leads reach w b q k) (s w.from k) (past k l)) ∙ total_ext 128 f g (λ k l. by (s w.from k) (leads reach w b q k))
   where
-    there : Bool
-    there = b == w.to && is_at (landing w.raise (reach w.to) key) q
+    f : ℕ → ℕ
+    f k = cond (way reach s w b q k) 1 0
 
-    by : (c : Bool) (x : Option ℕ) → (c && (true && (b == w.to && is_at x q))) ≡ (b == w.to && is_at (cond c x None) q)
+    g : ℕ → ℕ
+    g k = cond (s w.from k) (cond (leads reach w b q k) 1 0) 0
+
+    high : (k : ℕ) → w.highest + 1 ≤ k → f k ≡ 0
+    high k l = grind (arith, nat_tests)
+
+    none : (d c : Bool) → c ≡ false → ◌≡◌ {A = ℕ} (cond (c && d) 1 0) 0
+    none d c e = grind (arith, nat_tests)
+
+    by : (c d : Bool) → ◌≡◌ {A = ℕ} (cond (c && d) 1 0) (cond c (cond d 1 0) 0)
+    by true d = refl
+    by false d = refl
+
+-- a key leads to the place where it lands, if it is one of the wire's
+pub leads-is : (reach : Reaches) (w : Lead) (key b q : ℕ) (o : Option ℕ) → cond (nat_le w.lowest key && nat_le key w.highest) (landing w.raise (reach w.to) key) None ≡ o → leads reach w b q key ≡ (b == w.to && is_at o q)
+leads-is reach w key b q o e =
+    by (nat_le w.lowest key && nat_le key w.highest) (landing w.raise (reach w.to) key) ∙ ap (λ x. (b == w.to) && is_at x q) e
+  where
+    by : (c : Bool) (x : Option ℕ) → (c && (b == w.to && is_at x q)) ≡ (b == w.to && is_at (cond c x None) q)
     by true x = refl
     by false x = grind (arith, nat_tests)
 
-pub lands-below : (reach : Reaches) (s : Places) (w : Lead) (key q : ℕ) → cond (s w.from key) (landing w.raise (reach w.to) key) None ≡ Some q → q < reach w.to
-lands-below reach s w key q e = by (s w.from key) e where
+pub lands-below : (reach : Reaches) (w : Lead) (key q : ℕ) → cond (nat_le w.lowest key && nat_le key w.highest) (landing w.raise (reach w.to) key) None ≡ Some q → q < reach w.to
+lands-below reach w key q e = by (nat_le w.lowest key && nat_le key w.highest) e where
   by : (c : Bool) → cond c (landing w.raise (reach w.to) key) None ≡ Some q → q < reach w.to
   by true h = landing-below w.raise (reach w.to) key q h
   by false h = let z : ◌≡◌ {A = ℕ} 0 1 = cc in omega arith
-
--- no way from a key below the lowest or above the highest
-pub way-low : (reach : Reaches) (s : Places) (w : Lead) (key b q : ℕ) → key < w.lowest → way reach s w b q key ≡ false
-way-low reach s w key b q h = grind (arith, nat_tests)
-
-pub way-high : (reach : Reaches) (s : Places) (w : Lead) (key b q : ℕ) → w.highest < key → way reach s w b q key ≡ false
-way-high reach s w key b q h = grind (arith, nat_tests)
 
 -- a number that rose or fell by so much, or stayed
 abbrev pub Swung : Option Swing → ℕ → ℕ → ℕ → Type 0

@@ -1,5 +1,7 @@
 pub mod Faults
 pub mod Wires
+pub mod Index
+pub mod Indexed
 pub mod Swings
 pub mod Wiring
 pub mod Layout

@@ -1,6 +1,7 @@
 -- What the tables of a board hold. Assumes nothing.
-use Rattle.std.specs.Prelude.{ℕ, ◌+◌, ◌*◌, Bool, false, cond, ◌&&◌, List, Some, None, Option, ◌==◌, nat_le, nat_lt, slice_index_or}
+use Rattle.std.specs.Prelude.{ℕ, Bool, false, cond, ◌&&◌, List, Some, None, Option, ◌==◌, nat_le, slice_index_or}
 use Rattle.std.specs.Option.{option_map}
+use Rattle.sets.specs.Members.{members, empty}
 use Rattle.chest.specs.Places.{Places}
 use Rattle.chest.specs.Meaning.{Panel}
 use Rattle.chest.specs.declared.place.Place.{Place}
@@ -22,7 +23,7 @@ beneath h = reaches_of h.below
 
 -- the places of the register that are set
 abbrev pub register : Wiring → Places
-register h r p = nat_lt p (own h r) && slice_index_or h.keys (128 * r + p) false
+register h r = members (slice_index_or h.keys r empty)
 
 abbrev pub panel : Wiring → Panel
 panel h = positions_of h.positions

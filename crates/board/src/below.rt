@@ -63,10 +63,10 @@ impl<C: Chest> Below<C> {
         ensures exact { Exact self.new.ways (with_key (layout wiring.now) key.row key.place (starts swing)) }
         ensures keeps { Keeps C.Chest.meaning C.Chest.settled (layout wiring.now).below self.old self.new }
     {
-        for w in wiring.leads.as_slice() {
-            if let Some(at) = wiring.outlet(*w, key) {
-                self.bump(at, swing);
-            }
+        let mut rest = wiring.wires_from(key).rest();
+        while let Some(number) = rest.pop_first() {
+            let at = wiring.outlet(wiring.lead(number), key);
+            self.bump(at, swing);
         }
     }
 
@@ -76,9 +76,9 @@ impl<C: Chest> Below<C> {
         ensures moves { Moves (starts swing) self.old.ways self.new.ways (λ b q. span (layout wiring.now).below (layout wiring.now).register b q w) }
         ensures keeps { Keeps C.Chest.meaning C.Chest.settled (layout wiring.now).below self.old self.new }
     {
-        // not `..=`, whose last step stands apart: all that is proved of a step would have to be proved of that one too
-        for key in usize::from(w.lowest)..usize::from(w.highest) + 1 {
-            if let Some(at) = wiring.lands(w, key) {
+        let mut rest = wiring.row(usize::from(w.from)).rest();
+        while let Some(key) = rest.pop_first() {
+            if let Some(at) = w.lands(&wiring.below, key) {
                 self.bump(at, swing);
             }
         }
@@ -91,9 +91,11 @@ impl<C: Chest> Below<C> {
         ensures exact { Exact self.new.ways (with_knob (layout wiring.now) turn.to.knob turn.to.position) }
         ensures keeps { Keeps C.Chest.meaning C.Chest.settled (layout wiring.now).below self.old self.new }
     {
-        for w in wiring.leads.as_slice() {
+        let mut rest = wiring.waiting.of(turn.to.knob).rest();
+        while let Some(number) = rest.pop_first() {
+            let w = wiring.lead(number);
             if let Some(swing) = w.swing(turn) {
-                self.swing_wire(wiring, *w, swing);
+                self.swing_wire(wiring, w, swing);
             }
         }
     }

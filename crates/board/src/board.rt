@@ -56,7 +56,6 @@ impl<C: Chest> RelayBoard<C> {
 
 impl<C: Chest> Chest for RelayBoard<C> {
     ghost use Rattle.std.proofs.Common.{arith};
-    ghost use Rattle.std.proofs.lemmas.Bool.{and_parts, ltb-true};
     ghost use Rattle.std.proofs.lemmas.Bool.Decides.{nat_tests};
     ghost use Rattle.board.specs.Board.{meaning_of, Settled};
     ghost use Rattle.board.specs.Quiet.{board_quiet, board_bounded};
@@ -67,7 +66,7 @@ impl<C: Chest> Chest for RelayBoard<C> {
 
     ghost quiet = { λ c panel. board_quiet (layout c.wiring) (C.Chest.meaning c.below.chest) panel (C.Chest.quiet c.below.chest panel) };
 
-    ghost bounded = { λ c. board_bounded (layout c.wiring) (C.Chest.meaning c.below.chest) (λ r. let low = c.wiring.reaches.low r in Prim.grind (arith, nat_tests)) (λ r h. Prim.grind (arith, nat_tests)) (λ r p h. ltb-true p ((layout c.wiring).reach r) (and_parts _ _ h).0) (C.Chest.bounded c.below.chest) };
+    ghost bounded = { λ c. board_bounded (layout c.wiring) (C.Chest.meaning c.below.chest) (λ r. let low = c.wiring.reaches.low r in Prim.grind (arith, nat_tests)) (λ r h. Prim.grind (arith, nat_tests)) c.wiring.held (C.Chest.bounded c.below.chest) };
 
     fn reach(&self, row: usize) -> Result<usize, ChestFault> {
         self.wiring.reaches.reach(row)

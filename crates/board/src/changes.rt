@@ -12,12 +12,13 @@ impl Wiring {
         requires { at.place < (layout self.old).reach at.row }
         ensures { layout self.new ≡ with_key (layout self.old) at.row at.place on }
     {
-        self.keys[at.index()] = on;
+        self.keys[at.row] = self.keys[at.row].with(at.place, on);
     }
 
     pub(crate) fn turn(&mut self, to: Setting)
         ensures { layout self.new ≡ with_knob (layout self.old) to.knob to.position }
     {
+        self.live = self.live_after(to);
         self.positions.turn(to);
     }
 
@@ -25,6 +26,10 @@ impl Wiring {
         requires { length (layout self.old).wires < 128 }
         ensures { layout self.new ≡ with_wire (layout self.old) lead }
     {
+        let number = self.leads.len();
+        self.live = self.live.with(number, lead.is_live(&self.positions));
+        self.outlets.add(number, lead, &self.below);
+        self.waiting.add(number, lead);
         self.leads.push(lead);
     }
 }

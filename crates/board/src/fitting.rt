@@ -10,7 +10,7 @@ use crate::board::RelayBoard;
 use crate::fault::{BoardFault, RowRefused};
 use crate::wire::{Lead, Setting, Wire};
 use crate::wiring::Wiring;
-use chest::chest::{Chest, PLACES, POSITIONS, ROWS};
+use chest::chest::{Chest, POSITIONS, ROWS};
 use fittings::SHIFTS;
 
 // The knob of an offered wire that is always live: a book writes a number there, and what it means is the board's to say.
@@ -21,7 +21,7 @@ impl Wiring {
     fn has_key(&self, row: usize) -> bool
         ensures { result ≡ some 128 (register self.now row) }
     {
-        (0..PLACES).any(|key| self.is_set(row, key))
+        (0..self.reaches.of(row)).any(|key| self.is_set(row, key))
     }
 
     // Whether no place is set.

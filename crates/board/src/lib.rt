@@ -6,6 +6,7 @@ pub mod board;
 mod changes;
 pub mod fault;
 mod fitting;
+mod index;
 pub mod laws;
 mod making;
 mod reads;

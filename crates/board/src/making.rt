@@ -10,12 +10,14 @@ ghost use Rattle.board.specs.Making.{bare, new_layout, new_meaning};
 
 use crate::below::Below;
 use crate::board::RelayBoard;
+use crate::index::{Outlets, Waiting};
 use crate::wiring::{ALL_PLACES, Wiring};
 use arrayvec::ArrayVec;
 use chest::chest::{Chest, ROWS};
 use chest::positions::Positions;
 use chest::reaches::Reaches;
 use chest::walks;
+use sets::NumberSet;
 
 impl Wiring {
     // No wire and no key.
@@ -25,9 +27,12 @@ impl Wiring {
         Wiring {
             reaches: Reaches::new(reaches),
             below,
-            keys: [false; ALL_PLACES],
+            keys: [NumberSet::none(); ROWS],
             positions,
             leads: ArrayVec::new(),
+            live: NumberSet::none(),
+            outlets: Outlets::none(),
+            waiting: Waiting::none(),
         }
     }
 }

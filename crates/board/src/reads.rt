@@ -1,16 +1,24 @@
 // What the tables of a board answer.
-ghost use Rattle.std.specs.Prelude.{◌≡◌, ◌≢◌, if◌then◌else◌, None, IfSome};
+ghost use Rattle.std.specs.Prelude.{◌≡◌, ◌≢◌, ◌<◌, ◌&&◌, ℕ, true, if◌then◌else◌, length, slice_index_or, nat_le, Some, None, is_some, IfSome};
 ghost use Rattle.std.specs.Option.{option_map};
+ghost use Rattle.sets.specs.Members.{members};
+ghost use Rattle.chest.specs.Meaning.{knob_to};
+ghost use Rattle.chest.specs.Positions.{positions_of};
+ghost use Rattle.chest.specs.Reaches.{reaches_of};
 ghost use Rattle.board.specs.Wires.{landing, live};
-ghost use Rattle.board.specs.Wiring.{beneath, register, panel, outlet, swing, spot};
+ghost use Rattle.board.specs.Index.{among, blank};
+ghost use Rattle.board.specs.Wiring.{beneath, register, panel, wires, outlet, swing, spot};
 
 use crate::swing::Swing;
 use crate::wire::Lead;
 use crate::wiring::Wiring;
-use chest::chest::PLACES;
+use chest::chest::ROWS;
 use chest::place::Place;
+use chest::positions::Positions;
+use chest::reaches::Reaches;
 use chest::setting::Setting;
 use fittings::SHIFTS;
+use sets::NumberSet;
 
 // A knob that goes from one position to another.
 #[derive(Clone, Copy)]
@@ -37,14 +45,59 @@ impl Lead {
             None
         }
     }
+
+    // Whether the wire is live: always where it waits for no knob, else while the knob stands where it waits.
+    pub(crate) fn is_live(self, positions: &Positions) -> bool
+        ensures { result ≡ live (positions_of positions.now) self }
+    {
+        self.setting.is_none_or(|s| positions.of(usize::from(s.knob)) == usize::from(s.position))
+    }
+
+    // Where a key would land.
+    fn landing(self, below: &Reaches, key: usize) -> Option<Place>
+        ensures place { option_map (λ at. at.place) result ≡ landing self.raise (reaches_of below.now self.to) key }
+        ensures row { IfSome result (λ at. at.row ≡ self.to) }
+    {
+        let row = usize::from(self.to);
+        let raised = key.checked_add(usize::from(self.raise))?;
+        let place = raised.checked_sub(usize::from(SHIFTS))?;
+        if place < below.of(row) {
+            Some(Place { row, place })
+        } else {
+            None
+        }
+    }
+
+    // Where a key lands, if it is one of the wire's.
+    pub(crate) fn lands(self, below: &Reaches, key: usize) -> Option<Place>
+        ensures place { option_map (λ at. at.place) result ≡ (if nat_le self.lowest key && nat_le key self.highest then landing self.raise (reaches_of below.now self.to) key else None) }
+        ensures row { IfSome result (λ at. at.row ≡ self.to) }
+    {
+        if (usize::from(self.lowest)..=usize::from(self.highest)).contains(&key) {
+            self.landing(below, key)
+        } else {
+            None
+        }
+    }
 }
 
 impl Wiring {
-    // Whether a key is set. It is asked by two numbers: of the keys that a wire names no type says that they are places.
+    // Whether a key is set.
     pub(crate) fn is_set(&self, row: usize, key: usize) -> bool
         ensures { result ≡ register self.now row key }
     {
-        key < self.reaches.of(row) && self.keys[PLACES * row + key]
+        self.row(row).has(key)
+    }
+
+    // The keys of a row that are set.
+    pub(crate) fn row(&self, row: usize) -> NumberSet
+        ensures { members result ≡ register self.now row }
+    {
+        if row < ROWS {
+            self.keys[row]
+        } else {
+            NumberSet::none()
+        }
     }
 
     pub(crate) fn position(&self, knob: usize) -> usize
@@ -53,49 +106,43 @@ impl Wiring {
         self.positions.of(knob)
     }
 
-    // Whether a wire is live: always where it waits for no knob, else while the knob stands where it waits.
-    fn is_live(&self, w: Lead) -> bool
-        ensures { result ≡ live (panel self.now) w }
+    // A wire by its number.
+    pub(crate) fn lead(&self, number: usize) -> Lead
+        requires { number < length (wires self.now) }
+        ensures { result ≡ slice_index_or (wires self.now) number blank }
     {
-        w.setting.is_none_or(|s| self.position(usize::from(s.knob)) == usize::from(s.position))
+        self.leads[number]
     }
 
-    // Where a key would land through a wire.
-    fn landing(&self, w: Lead, key: usize) -> Option<Place>
-        ensures place { option_map (λ at. at.place) result ≡ landing w.raise (beneath self.now w.to) key }
-        ensures row { IfSome result (λ at. at.row ≡ w.to) }
+    // Where a key leads through a wire that leads somewhere from it.
+    pub(crate) fn outlet(&self, w: Lead, key: Place) -> Place
+        requires { is_some (outlet (beneath self.now) (panel self.now) w key.row key.place) ≡ true }
+        ensures { outlet (beneath self.now) (panel self.now) w key.row key.place ≡ Some (spot result) }
     {
-        let row = usize::from(w.to);
-        let raised = key.checked_add(usize::from(w.raise))?;
-        let place = raised.checked_sub(usize::from(SHIFTS))?;
-        if place < self.below.of(row) {
-            Some(Place { row, place })
-        } else {
-            None
+        Place {
+            row: usize::from(w.to),
+            place: key.place + usize::from(w.raise) - usize::from(SHIFTS),
         }
     }
 
-    // Where a key leads through a wire.
-    pub(crate) fn outlet(&self, w: Lead, key: Place) -> Option<Place>
-        ensures { option_map spot result ≡ outlet (beneath self.now) (panel self.now) w key.row key.place }
+    // The live wires that lead somewhere from a key.
+    pub(crate) fn wires_from(&self, key: Place) -> NumberSet
+        ensures { members result ≡ among (λ w. is_some (outlet (beneath self.now) (panel self.now) w key.row key.place)) (wires self.now) }
     {
-        let lies = (usize::from(w.lowest)..=usize::from(w.highest)).contains(&key.place);
-        if key.row == usize::from(w.from) && lies && self.is_live(w) {
-            self.landing(w, key.place)
-        } else {
-            None
-        }
+        self.outlets.of(key).both(self.live)
     }
 
-    // Where a key of a wire lands, if it is set.
-    pub(crate) fn lands(&self, w: Lead, key: usize) -> Option<Place>
-        ensures place { option_map (λ at. at.place) result ≡ (if register self.now w.from key then landing w.raise (beneath self.now w.to) key else None) }
-        ensures row { IfSome result (λ at. at.row ≡ w.to) }
+    // The wires that are live once a knob is turned.
+    pub(crate) fn live_after(&self, to: Setting) -> NumberSet
+        ensures { members result ≡ among (live (knob_to (panel self.now) to.knob to.position)) (wires self.now) }
     {
-        if self.is_set(usize::from(w.from), key) {
-            self.landing(w, key)
-        } else {
-            None
+        let mut positions = self.positions;
+        positions.turn(to);
+        let mut live = self.live;
+        let mut rest = self.waiting.of(to.knob).rest();
+        while let Some(number) = rest.pop_first() {
+            live = live.with(number, self.lead(number).is_live(&positions));
         }
+        live
     }
 }

@@ -1,60 +1,76 @@
--- Each wire is walked once.
-use Rattle.std.proofs.Common.{◌≡◌, ℕ, ◌+◌, ◌<◌, ◌≤◌, true, length, cond, Some, None, sym, ap, ◌∙◌, subst, arith}
-use Rattle.std.specs.Option.{option_map}
+-- Each wire that leads somewhere from the key is walked once.
+use Rattle.std.proofs.Common.{◌≡◌, ℕ, true, get_or, is_some, Some, sym, ap, ◌∙◌, subst, arith}
 use Rattle.std.proofs.lemmas.Bool.Decides.{nat_tests}
-use Rattle.board.specs.Wiring.{beneath, panel, wires, meets, spot}
+use Rattle.sets.specs.Members.{remaining}
+use Rattle.board.specs.declared.wire.Lead.{Lead}
+use Rattle.board.specs.Wiring.{beneath, panel, wires, outlet, meets, spot}
 use Rattle.board.specs.Swings.{starts}
-use Rattle.board.specs.Counts.{at_place, one_at}
-use Rattle.board.specs.Below.{Keeps}
-use Rattle.board.proofs.Sums.{walked_none, walked_all}
+use Rattle.board.specs.Counts.{at_place}
+use Rattle.board.proofs.Sums.{mixed_start, mixed_end, left_less}
+use Rattle.board.proofs.Among.{among_in, still_in, left_out}
 use Rattle.board.proofs.Ways.{outlet-below}
-use Rattle.board.proofs.Counting.{wire_at, wire_in, wire_is, key_room, key_more}
+use Rattle.board.proofs.Counting.{key_new, key_old, key_same, key_room, key_more}
 use Rattle.board.proofs.Standing.{keeps_same, keeps_more}
 use Rattle.board.proofs.below.Below.swing_key.Goals as goal
-use Rattle.board.proofs.below.Below.swing_key.Goals.{in-Some, in_default}
 
 met : (to place : ℕ) → meets (Some (to, place)) to place ≡ true
 met to place = grind (arith, nat_tests)
 
-pub loop-w-init : goal.loop-w-init
-loop-w-init g c =
-    (λ b q hb hq. c.requires.exact b q (hb, hq) ∙ sym (walked_none _ _ (wires c.args.wiring.now)), keeps_same c.args.self.now)
+pub loop-number-init : goal.loop-number-init
+loop-number-init g c =
+    let h = c.args.wiring.now in
+    let key = c.args.key in
+    let on = starts c.args.swing in
+    let s = remaining c.rest-rest.result in
+    let is = c.rest-rest.ensures ∙ c.wires_from.ensures in (
+      λ i left. sym (ap (λ x. x i) is) ∙ left,
+      λ b q hb hq. c.requires.exact b q (hb, hq) ∙ sym (mixed_start (key_new h key.row key.place on b q) (key_old h key.row key.place on b q) (wires h) s h.few (λ i d l out. key_same h key.row key.place on b q c.requires.other (get_or (wires h) i d) (left_out (λ w. is_some (outlet (beneath h) (panel h) w key.row key.place)) (wires h) s is i d l out))),
+      keeps_same c.args.self.now,
+    )
+
+pub outlet-at-requires : goal.outlet-at-requires
+outlet-at-requires g c =
+    let h = c.args.wiring.now in
+    let key = c.args.key in
+    let leads = λ (w : Lead). is_some (outlet (beneath h) (panel h) w key.row key.place) in
+    ap leads c.lead.ensures ∙ (among_in leads (wires h) c.in-Some.number (c.loop-number.invariant.0 c.in-Some.number c.in-Some.ensures.value.0)).1
 
 pub bump-requires : goal.bump-requires
 bump-requires g c =
     let h = c.args.wiring.now in
-    let list = c.as_slice-w-items.ensures in
-    let at = c.in-Some.at in
-    let i = c.loop-w.w-index in
-    let w = wire_at h c.as_slice-w-items.result.now list.value i c.loop-w-test.true in
-    let few : length (wires h) ≤ 128 = subst (λ ws. length ws ≤ 128) list.value list.fits in
-    key_room h c.args.key.row c.args.key.place (starts c.args.swing) at.row at.place few c.requires.other i (at_place c.loop-w.self.ways at.row at.place) w (wire_in h _ list.value i c.loop-w-test.true) (wire_is h _ list.value i c.loop-w-test.true) (c.loop-w.invariant.0 at.row at.place at.row_in at.place_in) (Some (spot at)) (sym c.in-Some.ensures) (met at.row at.place)
+    let key = c.args.key in
+    let at = c.outlet-at.result in
+    let k = c.in-Some.number in
+    let leads = λ (w : Lead). is_some (outlet (beneath h) (panel h) w key.row key.place) in
+    let is = subst (λ w. outlet (beneath h) (panel h) w key.row key.place ≡ Some (spot at)) c.lead.ensures c.outlet-at.ensures in
+    key_room h key.row key.place (starts c.args.swing) at.row at.place c.requires.other (remaining c.loop-number.rest) (remaining c.pop_first.new.self) k (at_place c.loop-number.self.ways at.row at.place) (among_in leads (wires h) k (c.loop-number.invariant.0 k c.in-Some.ensures.value.0)).0 c.in-Some.ensures.value (c.loop-number.invariant.1 at.row at.place at.row_in at.place_in) (Some (spot at)) is (met at.row at.place)
 
-pub loop-w-preserved : goal.loop-w-preserved
-loop-w-preserved g c =
+pub loop-number-smaller : goal.loop-number-smaller
+loop-number-smaller g c =
+    left_less (remaining c.loop-number.rest) (remaining c.pop_first.new.self) c.in-Some.number c.in-Some.ensures.bound c.in-Some.ensures.value
+
+pub loop-number-preserved : goal.loop-number-preserved
+loop-number-preserved g c =
     let h = c.args.wiring.now in
     let key = c.args.key in
     let on = starts c.args.swing in
-    let list = c.as_slice-w-items.ensures in
-    let i = c.loop-w.w-index in
-    let w = wire_at h c.as_slice-w-items.result.now list.value i c.loop-w-test.true in
-    let few : length (wires h) ≤ 128 = subst (λ ws. length ws ≤ 128) list.value list.fits in
-    let more = λ (b q : ℕ) (hb : b < 16) (hq : q < 128). key_more h key.row key.place on b q few c.requires.other i (at_place c.loop-w.self.ways b q) w (wire_in h _ list.value i c.loop-w-test.true) (wire_is h _ list.value i c.loop-w-test.true) (c.loop-w.invariant.0 b q hb hq) in
-    elim c.match-outlet.branch [
-      | in-Some v ↦
-          let at = v.in-Some.at in (
-            λ b q hb hq. more b q hb hq (Some (spot at)) (sym v.in-Some.ensures) (at_place c.match-outlet.self.ways b q) (ap (λ t. at_place t.ways b q + cond on 0 (one_at at.row at.place b q)) v.self-is ∙ v.bump.ensures.moves b q hb hq),
-            subst (Keeps g.C.Chest.meaning g.C.Chest.settled (beneath h) c.args.self.now) (sym v.self-is) (keeps_more c.loop-w.invariant.1 (v.bump.ensures.keeps (beneath h) (outlet-below (beneath h) (panel h) w key.row key.place (spot at) (sym v.in-Some.ensures)))),
-          )
-      | in_default v ↦ (
-        λ b q hb hq. more b q hb hq None (sym c.outlet.ensures ∙ ap (option_map spot) v.in_default.is) (at_place c.match-outlet.self.ways b q) (ap (λ t. at_place t.ways b q + cond on 0 0) v.self-is),
-        subst (Keeps g.C.Chest.meaning g.C.Chest.settled (beneath h) c.args.self.now) (sym v.self-is) c.loop-w.invariant.1,
-      )
-    ]
+    let at = c.outlet-at.result in
+    let k = c.in-Some.number in
+    let s = remaining c.loop-number.rest in
+    let t = remaining c.pop_first.new.self in
+    let inv = c.loop-number.invariant in
+    let pops = c.in-Some.ensures.value in
+    let leads = λ (w : Lead). is_some (outlet (beneath h) (panel h) w key.row key.place) in
+    let is = subst (λ w. outlet (beneath h) (panel h) w key.row key.place ≡ Some (spot at)) c.lead.ensures c.outlet-at.ensures in
+    let within = (among_in leads (wires h) k (inv.0 k pops.0)).0 in (
+      λ i left. inv.0 i (still_in s t k pops i left),
+      λ b q hb hq. key_more h key.row key.place on b q c.requires.other s t k (at_place c.loop-number.self.ways b q) within pops (inv.1 b q hb hq) (Some (spot at)) is (at_place c.bump.new.self.ways b q) (c.bump.ensures.moves b q hb hq),
+      keeps_more inv.2 (c.bump.ensures.keeps (beneath h) (outlet-below (beneath h) (panel h) c.lead.result key.row key.place (spot at) c.outlet-at.ensures)),
+    )
 
-pub returns : goal.returns
-returns g c =
-    record {
-      exact = λ b q within. c.loop-w.invariant.0 b q within.0 within.1 ∙ walked_all _ _ (wires c.args.wiring.now) c.loop-w.w-index (omega (arith, c.loop-w-test.false, ap length c.as_slice-w-items.ensures.value));
-      keeps = c.loop-w.invariant.1;
-    }
+pub returns-clause-exact : goal.returns-clause-exact
+returns-clause-exact g c = λ b q within.
+    let h = c.args.wiring.now in
+    let key = c.args.key in
+    let on = starts c.args.swing in
+    c.loop-number.invariant.1 b q within.0 within.1 ∙ mixed_end (key_new h key.row key.place on b q) (key_old h key.row key.place on b q) (wires h) (remaining c.loop-number.rest) h.few c.in_default.ensures.value.0

@@ -1,53 +1,81 @@
--- Each wire is walked once.
-use Rattle.std.proofs.Common.{ℕ, ◌+◌, ◌<◌, ◌≤◌, length, cond, sym, ap, ◌∙◌, subst, arith}
+-- Each wire that waits for the knob is walked once.
+use Rattle.std.proofs.Common.{◌≡◌, ◌+◌, cond, get_or, Some, None, sym, ap, ◌∙◌, subst}
+use Rattle.sets.specs.Members.{remaining}
 use Rattle.board.specs.Wires.{span}
-use Rattle.board.specs.Wiring.{wires, beneath, register}
+use Rattle.board.specs.Wiring.{beneath, register, wires, swing}
+use Rattle.board.specs.Index.{waits}
 use Rattle.board.specs.Swings.{starts}
-use Rattle.board.specs.Counts.{at_place}
-use Rattle.board.specs.Below.{Keeps}
-use Rattle.board.proofs.Sums.{walked_none, walked_all}
-use Rattle.board.proofs.Counting.{wire_at, wire_in, wire_is, knob_room, knob_more, knob_stays}
+use Rattle.board.specs.Counts.{at_place, Fits}
+use Rattle.board.proofs.Sums.{mixed_start, mixed_end, left_less}
+use Rattle.board.proofs.Among.{among_in, still_in, left_out}
+use Rattle.board.proofs.Counting.{knob_new, knob_old, knob_same, knob_room, knob_more, knob_stays}
 use Rattle.board.proofs.Standing.{keeps_same, keeps_more}
 use Rattle.board.proofs.below.Below.swing_knob.Goals as goal
-use Rattle.board.proofs.below.Below.swing_knob.Goals.{in-Some, in_default}
 
-pub loop-w-init : goal.loop-w-init
-loop-w-init g c =
-    (λ b q hb hq. c.requires.exact b q (hb, hq) ∙ sym (walked_none _ _ (wires c.args.wiring.now)), keeps_same c.args.self.now)
+pub loop-number-init : goal.loop-number-init
+loop-number-init g c =
+    let h = c.args.wiring.now in
+    let turn = c.args.turn in
+    let knob = turn.to.knob in
+    let s = remaining c.rest-rest.result in
+    let is = c.rest-rest.ensures ∙ c.of.ensures ∙ h.waits knob turn.to.knob_in in (
+      λ i left. sym (ap (λ x. x i) is) ∙ left,
+      λ b q hb hq. c.requires.exact b q (hb, hq) ∙ sym (mixed_start (knob_new h knob turn.from turn.to.position b q) (knob_old h knob turn.from turn.to.position b q) (wires h) s h.few (λ i d l out. knob_same h knob turn.from turn.to.position b q c.requires.was turn.turns (get_or (wires h) i d) (left_out (waits knob) (wires h) s is i d l out))),
+      keeps_same c.args.self.now,
+    )
 
 pub swing_wire-requires : goal.swing_wire-requires
 swing_wire-requires g c b q hb hq =
     let h = c.args.wiring.now in
     let turn = c.args.turn in
-    let list = c.as_slice-w-items.ensures in
-    let i = c.loop-w.w-index in
-    let few : length (wires h) ≤ 128 = subst (λ ws. length ws ≤ 128) list.value list.fits in
-    knob_room h turn.to.knob turn.from turn.to.position b q few c.requires.was turn.turns i (at_place c.loop-w.self.ways b q) (wire_at h _ list.value i c.loop-w-test.true) (wire_in h _ list.value i c.loop-w-test.true) (wire_is h _ list.value i c.loop-w-test.true) (c.loop-w.invariant.0 b q hb hq) c.in-Some.swing (sym c.swing.ensures ∙ c.in-Some.is)
+    let k = c.in-Some.number in
+    let is = subst (λ w. swing w turn.to.knob turn.from turn.to.position ≡ Some c.in-Some-swing.swing) c.lead-w.ensures (sym c.swing.ensures ∙ c.in-Some-swing.is) in
+    let room = knob_room h turn.to.knob turn.from turn.to.position b q c.requires.was turn.turns (remaining c.loop-number.rest) (remaining c.pop_first.new.self) k (at_place c.loop-number.self.ways b q) (among_in (waits turn.to.knob) (wires h) k (c.loop-number.invariant.0 k c.in-Some.ensures.value.0)).0 c.in-Some.ensures.value (c.loop-number.invariant.1 b q hb hq) c.in-Some-swing.swing is in
+    subst (λ w. Fits (starts c.in-Some-swing.swing) (at_place c.loop-number.self.ways b q) (span (beneath h) (register h) b q w)) (sym c.lead-w.ensures) room
 
-pub loop-w-preserved : goal.loop-w-preserved
-loop-w-preserved g c =
+pub loop-number-smaller-in-Some-swing : goal.loop-number-smaller-in-Some-swing
+loop-number-smaller-in-Some-swing g c =
+    left_less (remaining c.loop-number.rest) (remaining c.pop_first.new.self) c.in-Some.number c.in-Some.ensures.bound c.in-Some.ensures.value
+
+pub loop-number-preserved-in-Some-swing : goal.loop-number-preserved-in-Some-swing
+loop-number-preserved-in-Some-swing g c =
     let h = c.args.wiring.now in
     let turn = c.args.turn in
-    let list = c.as_slice-w-items.ensures in
-    let i = c.loop-w.w-index in
-    let w = wire_at h c.as_slice-w-items.result.now list.value i c.loop-w-test.true in
-    let few : length (wires h) ≤ 128 = subst (λ ws. length ws ≤ 128) list.value list.fits in
-    let more = λ (b q : ℕ) (hb : b < 16) (hq : q < 128). knob_more h turn.to.knob turn.from turn.to.position b q few c.requires.was turn.turns i (at_place c.loop-w.self.ways b q) w (wire_in h _ list.value i c.loop-w-test.true) (wire_is h _ list.value i c.loop-w-test.true) (c.loop-w.invariant.0 b q hb hq) in
-    let stays = λ (b q : ℕ) (hb : b < 16) (hq : q < 128). knob_stays h turn.to.knob turn.from turn.to.position b q few c.requires.was turn.turns i (at_place c.loop-w.self.ways b q) w (wire_in h _ list.value i c.loop-w-test.true) (wire_is h _ list.value i c.loop-w-test.true) (c.loop-w.invariant.0 b q hb hq) in
-    elim c.match-swing.branch [
-      | in-Some v ↦ (
-        λ b q hb hq. more b q hb hq v.in-Some.swing (sym c.swing.ensures ∙ v.in-Some.is) (at_place c.match-swing.self.ways b q) (ap (λ t. at_place t.ways b q + cond (starts v.in-Some.swing) 0 (span (beneath h) (register h) b q w)) v.self-is ∙ v.swing_wire.ensures.moves b q hb hq),
-        subst (Keeps g.C.Chest.meaning g.C.Chest.settled (beneath h) c.args.self.now) (sym v.self-is) (keeps_more c.loop-w.invariant.1 v.swing_wire.ensures.keeps),
-      )
-      | in_default v ↦ (
-        λ b q hb hq. ap (λ t. at_place t.ways b q) v.self-is ∙ stays b q hb hq (sym c.swing.ensures ∙ v.in_default.is),
-        subst (Keeps g.C.Chest.meaning g.C.Chest.settled (beneath h) c.args.self.now) (sym v.self-is) c.loop-w.invariant.1,
-      )
-    ]
+    let k = c.in-Some.number in
+    let s = remaining c.loop-number.rest in
+    let t = remaining c.pop_first.new.self in
+    let inv = c.loop-number.invariant in
+    let pops = c.in-Some.ensures.value in
+    let up = starts c.in-Some-swing.swing in
+    let is = subst (λ w. swing w turn.to.knob turn.from turn.to.position ≡ Some c.in-Some-swing.swing) c.lead-w.ensures (sym c.swing.ensures ∙ c.in-Some-swing.is) in
+    let within = (among_in (waits turn.to.knob) (wires h) k (inv.0 k pops.0)).0 in (
+      λ i left. inv.0 i (still_in s t k pops i left),
+      λ b q hb hq. knob_more h turn.to.knob turn.from turn.to.position b q c.requires.was turn.turns s t k (at_place c.loop-number.self.ways b q) within pops (inv.1 b q hb hq) c.in-Some-swing.swing is (at_place c.swing_wire.new.self.ways b q) (subst (λ w. at_place c.swing_wire.new.self.ways b q + cond up 0 (span (beneath h) (register h) b q w) ≡ at_place c.loop-number.self.ways b q + cond up (span (beneath h) (register h) b q w) 0) c.lead-w.ensures (c.swing_wire.ensures.moves b q hb hq)),
+      keeps_more inv.2 c.swing_wire.ensures.keeps,
+    )
 
-pub returns : goal.returns
-returns g c =
-    record {
-      exact = λ b q within. c.loop-w.invariant.0 b q within.0 within.1 ∙ walked_all _ _ (wires c.args.wiring.now) c.loop-w.w-index (omega (arith, c.loop-w-test.false, ap length c.as_slice-w-items.ensures.value));
-      keeps = c.loop-w.invariant.1;
-    }
+pub loop-number-smaller : goal.loop-number-smaller
+loop-number-smaller g c =
+    left_less (remaining c.loop-number.rest) (remaining c.pop_first.new.self) c.in-Some.number c.in-Some.ensures.bound c.in-Some.ensures.value
+
+pub loop-number-preserved : goal.loop-number-preserved
+loop-number-preserved g c =
+    let h = c.args.wiring.now in
+    let turn = c.args.turn in
+    let k = c.in-Some.number in
+    let s = remaining c.loop-number.rest in
+    let t = remaining c.pop_first.new.self in
+    let inv = c.loop-number.invariant in
+    let pops = c.in-Some.ensures.value in
+    let is = subst (λ w. swing w turn.to.knob turn.from turn.to.position ≡ None) c.lead-w.ensures (sym c.swing.ensures ∙ c.in_default-swing.is) in
+    let within = (among_in (waits turn.to.knob) (wires h) k (inv.0 k pops.0)).0 in (
+      λ i left. inv.0 i (still_in s t k pops i left),
+      λ b q hb hq. knob_stays h turn.to.knob turn.from turn.to.position b q c.requires.was turn.turns s t k (at_place c.loop-number.self.ways b q) within pops (inv.1 b q hb hq) is,
+      inv.2,
+    )
+
+pub returns-clause-exact : goal.returns-clause-exact
+returns-clause-exact g c = λ b q within.
+    let h = c.args.wiring.now in
+    let turn = c.args.turn in
+    c.loop-number.invariant.1 b q within.0 within.1 ∙ mixed_end (knob_new h turn.to.knob turn.from turn.to.position b q) (knob_old h turn.to.knob turn.from turn.to.position b q) (wires h) (remaining c.loop-number.rest) h.few c.in_default.ensures.value.0

@@ -1,14 +1,16 @@
--- The ways of the keys before `key` are counted.
-use Rattle.std.proofs.Common.{cond}
-use Rattle.chest.specs.Places.{total}
-use Rattle.board.specs.Wires.{way}
-use Rattle.board.specs.Wiring.{beneath, register}
+-- The ways of the wire are counted, but for those of the keys that are left.
+use Rattle.sets.specs.Members.{remaining}
+use Rattle.board.specs.Wiring.{beneath}
 use Rattle.board.specs.Swings.{starts}
-use Rattle.board.specs.Counts.{Moves}
 use Rattle.board.specs.Below.{Keeps}
+use Rattle.board.proofs.Counting.{Left}
+use Rattle.board.proofs.Sums.{left}
 use Rattle.board.proofs.below.Below.swing_wire.Given as goal
 
 abbrev pub invariant-loop-key : goal.invariant-loop-key
 invariant-loop-key g l =
-    Moves (starts l.swing) l.initial.self.ways l.self.ways (λ b q. total l.key (λ k. cond (way (beneath l.wiring) (register l.wiring) l.w b q k) 1 0))
+    Left l.wiring l.w (starts l.swing) l.initial.self.ways l.self.ways (remaining l.rest)
     × Keeps g.C.Chest.meaning g.C.Chest.settled (beneath l.wiring) l.initial.self l.self
+
+abbrev pub decreases-loop-key : goal.decreases-loop-key
+decreases-loop-key g l = left (remaining l.rest)

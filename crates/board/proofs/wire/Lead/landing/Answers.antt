@@ -1,12 +1,12 @@
 use Rattle.std.proofs.Common.{arith, of_calls}
 use Rattle.std.proofs.lemmas.Bool.Decides.{nat_tests}
 use Rattle.board.specs.Wires.{landing}
-use Rattle.board.proofs.wiring.Wiring.landing.Goals as goal
+use Rattle.board.proofs.wire.Lead.landing.Goals as goal
 
 pub returns-in_err-raised-clause-place : goal.returns-in_err-raised-clause-place
 unfolding landing
 returns-in_err-raised-clause-place c =
-    let low = c.args.self.now.below.low c.args.w.to in
+    let low = c.args.below.now.low c.args.self.to in
     grind (arith, nat_tests, of_calls, c.checked_add.ensures, c.in_err-raised.ensures, c.from_residual.ensures)
 
 pub returns-in_err-place-clause-place : goal.returns-in_err-place-clause-place

@@ -1,0 +1,28 @@
+use Rattle.std.proofs.Common.{Some, ◌+◌, ◌-◌, sym, ◌∙◌, arith}
+use Rattle.std.proofs.lemmas.Bool.Decides.{nat_tests}
+use Rattle.board.specs.Wiring.{beneath, panel}
+use Rattle.board.proofs.Indexes.{outlet_some}
+use Rattle.board.proofs.wiring.Wiring.outlet.Goals as goal
+
+pub overflow_sub-result : goal.overflow_sub-result
+overflow_sub-result c =
+    let h = c.args.self.now in
+    let some = outlet_some (beneath h) (panel h) c.args.w c.args.key.row c.args.key.place c.requires in
+    omega (arith, some.0, c.from-2.ensures, c.from-3.ensures)
+
+pub invariant_of-result : goal.invariant_of-result
+invariant_of-result c =
+    let h = c.args.self.now in
+    let w = c.args.w in
+    let some = outlet_some (beneath h) (panel h) w c.args.key.row c.args.key.place c.requires in
+    let low = h.below.low w.to in
+    record {
+      row_in = grind (arith, nat_tests, some.1, c.from.ensures);
+      place_in = grind (arith, nat_tests, some.1, c.from-2.ensures, c.from-3.ensures);
+    }
+
+pub returns : goal.returns
+returns c =
+    let h = c.args.self.now in
+    let some = outlet_some (beneath h) (panel h) c.args.w c.args.key.row c.args.key.place c.requires in
+    some.2 ∙ (λ i. Some (sym c.from.ensures i, c.args.key.place + sym c.from-2.ensures i - sym c.from-3.ensures i))
