@@ -1,18 +1,14 @@
 -- What the digits of a number are worth. Assumes nothing.
-use Rattle.std.proofs.Common.{◌≡◌, ℕ, ◌-◌, ◌<◌, ◌≤◌, true, ◌&&◌, Result, List, [], ◌∷◌, length, get_or, take, drop, ℤ, pos, ◌-ℤ◌, neg_ℤ, Some, Option, sym, refl, ap, ◌∙◌, subst, arith, w16, to_z, of_z}
+use Rattle.std.proofs.Common.{◌≡◌, ℕ, ◌+◌, ◌-◌, ◌*◌, ◌<◌, ◌≤◌, true, ◌&&◌, List, [], ◌∷◌, length, get_or, take, drop, ℤ, pos, ◌-ℤ◌, neg_ℤ, Some, Option, sym, refl, ap, ◌∙◌, arith, w16, to_z, of_z}
 use Rattle.std.specs.Str.Parse.{AllDigits, digits_value}
 use Rattle.std.specs.Char.{is_ascii_digit}
-use Rattle.std.specs.Str.{IsUtf8, all_ascii_digits}
+use Rattle.std.specs.Str.{all_ascii_digits}
 use Rattle.std.specs.List.{list_all}
-use Rattle.std.specs.Str.Parse.{ParsesUnsigned}
-use Rattle.std.specs.Result.{result_ok}
-use Rattle.std.specs.Option.{IfSome}
-use Rattle.std.proofs.lemmas.Str.{IsUtf8-from_ascii}
-use Rattle.std.proofs.lemmas.Fmt.{IsAscii-from_digits}
 use Rattle.std.proofs.lemmas.Bool.{and_parts, leb-true}
-use Rattle.std.proofs.lemmas.Str.Parse.{parse_gives}
-use Rattle.std.proofs.lemmas.List.{take_rest}
-use Rattle.std.proofs.lemmas.Str.Parse.{IsNumeralModel, numerals_by_value, tells_all_ascii_digits, tells_digits, digits_value_short}
+use Rattle.std.proofs.lemmas.List.{take_all, take_rest}
+use Rattle.std.proofs.lemmas.Int.Digits.{digits_value_more}
+use Rattle.std.proofs.lemmas.Str.{digit_value_digit}
+use Rattle.std.proofs.lemmas.Str.Parse.{IsNumeralModel, numerals_by_value, tells_all_ascii_digits, tells_digits, digits_value_short, digits_value-take-le, digit_at}
 use Rattle.std.proofs.lemmas.Bool.{cond-true, cond-false, eq-eqb, ne_eqb}
 use Rattle.std.proofs.lemmas.Int.{ints}
 use Rattle.std.proofs.lemmas.Bool.Decides.{nat_tests}
@@ -44,16 +40,25 @@ plain-digits ds ok =
     let few = and_parts _ _ some.1 in
     (leb-true _ _ some.0, leb-true _ _ few.0, (and_parts _ _ few.1).1)
 
-pub plain-text : (ds : List ℕ) → digits_ok ds ≡ true → IsUtf8 ds
-plain-text ds ok = IsUtf8-from_ascii ds (IsAscii-from_digits ds (own.to ds (plain-digits ds ok).2))
+-- one digit more, of the first digits that n is worth
+pub record Grows (ds : List ℕ) (i n : ℕ) : Type 0 where
+  pub digit : 48 ≤ get_or ds i 0
+  pub value : n * 10 + (get_or ds i 0 - 48) ≡ digits_value 10 (take (i + 1) ds)
+  pub room : n * 10 + (get_or ds i 0 - 48) ≤ 9999
 
--- what std reads from plain digits
-pub size_parsed : {E : Type 0} (ds : List ℕ) (r : Result ℕ E) → digits_ok ds ≡ true → ParsesUnsigned 16 10 ds r → (result_ok r ≡ size_of ds) × IfSome (result_ok r) (λ n. n ≤ 9999)
-size_parsed ds r ok parsed =
+pub size-more : (ds : List ℕ) (i n : ℕ) → digits_ok ds ≡ true → i < length ds → n ≡ digits_value 10 (take i ds) → Grows ds i n
+size-more ds i n ok h is =
     let p = plain-digits ds ok in
-    let few = size_room ds p.1 (own.to ds p.2) in
-    let is = parse_gives own 16 ds r parsed p.2 p.0 (omega (arith, few)) in
-    (ap result_ok is ∙ sym (cond-true _ _ _ ok), subst (λ q. IfSome (result_ok q) (λ n. n ≤ 9999)) (sym is) few)
+    let d = own.to ds p.2 in
+    let here = digit_at ds i d h in
+    let more : n * 10 + (get_or ds i 0 - 48) ≡ digits_value 10 (take (i + 1) ds) = omega (arith, digits_value_more 10 ds i h, digit_value_digit (get_or ds i 0) here) in
+    record { digit = here.0; value = more; room = omega (arith, more, digits_value-take-le 10 ds (i + 1) (omega arith), size_room ds p.1 d) }
+
+pub size-done : (ds : List ℕ) (i n : ℕ) → digits_ok ds ≡ true → length ds ≤ i → n ≡ digits_value 10 (take i ds) → (Some n ≡ size_of ds) × (n ≤ 9999)
+size-done ds i n ok end is =
+    let p = plain-digits ds ok in
+    let worth = is ∙ ap (digits_value 10) (take_all i ds end) in
+    (ap Some worth ∙ sym (cond-true _ _ _ ok), omega (arith, size_room ds p.1 (own.to ds p.2)))
 
 -- o is what the bytes after the minus are worth
 pub numeral-minus : (bs : List ℕ) (o : Option ℕ) → get_or bs 0 0 ≡ 45 → o ≡ size_of (take (length bs - 1) (drop 1 bs)) → below_zero o ≡ numeral bs

@@ -11,7 +11,7 @@ fn is_plain(digits: &[u8]) -> bool
         && digits.iter().all(|b| b.is_ascii_digit())
 }
 
-// The number that the digits write: std's `parse` alone takes a plus and leading zeros too.
+// The number that the digits write. std's `parse` would want a `str`, and each digit would be tested twice more.
 fn size(digits: &[u8]) -> Option<u16>
     ensures value { result ≡ size_of digits.now }
     ensures bound { IfSome result (λ n. n ≤ 9999) }
@@ -19,7 +19,11 @@ fn size(digits: &[u8]) -> Option<u16>
     if !is_plain(digits) {
         return None;
     }
-    str::from_utf8(digits).ok()?.parse().ok()
+    let mut n: u16 = 0;
+    for b in digits {
+        n = n * 10 + u16::from(*b - b'0');
+    }
+    Some(n)
 }
 
 // The number that the bytes write, with its sign.

@@ -1,19 +1,25 @@
-use Rattle.std.proofs.Common.{◌≡◌, ◌≤◌, true, sym, ◌∙◌, subst, rules}
-use Rattle.std.specs.Option.{IfSome}
-use Rattle.std.specs.Str.Parse.{ParsesUnsigned}
-use Rattle.book.specs.Numerals.{digits_ok}
-use Rattle.book.proofs.Digital.{size_parsed, plain-text}
+use Rattle.std.proofs.Common.{◌+◌, ◌*◌, ap, ◌∙◌, arith}
+use Rattle.book.proofs.Digital.{Grows, size-more, size-done}
 use Rattle.book.proofs.numerals.size.Goals as goal
+use Rattle.book.proofs.numerals.size.Goals.{In-loop-b}
 
-pub returns-in_err-ok : goal.returns-in_err-ok
-returns-in_err-ok c =
-    let ok : digits_ok c.args.digits.now ≡ true = search rules in
-    let text = plain-text c.args.digits.now ok in
-    absurd (search rules)
+more : (c : In-loop-b) → Grows c.args.digits.now c.loop-b.b-index c.loop-b.n
+more c = size-more _ _ _ c.loop-b.invariant.0 c.loop-b-test.true c.loop-b.invariant.1
+
+pub overflow_sub-b : goal.overflow_sub-b
+overflow_sub-b c = omega (arith, (more (goal.at.overflow_sub-b c).In-loop-b).digit)
+
+pub overflow_mul-n : goal.overflow_mul-n
+overflow_mul-n c = omega (arith, (more c).room)
+
+pub overflow_add-n : goal.overflow_add-n
+overflow_add-n c = omega (arith, c.from.ensures, (more (goal.at.overflow_add-n c).In-loop-b).room)
+
+pub loop-b-preserved : goal.loop-b-preserved
+loop-b-preserved c =
+    (c.loop-b.invariant.0, ap (λ d. c.loop-b.n * 10 + d) c.from.ensures ∙ (more (goal.at.loop-b-preserved c).In-loop-b).value)
 
 pub returns : goal.returns
 returns c =
-    let same : c.in_ok-ok.field-0.now ≡ c.args.digits.now = search rules in
-    let p = size_parsed c.args.digits.now c.parse.result (search rules) (subst (λ bs. ParsesUnsigned 16 10 bs c.parse.result) same c.parse.ensures.value.0) in
-    let is = c.ok-2.ensures.value in
-    record { value = is ∙ p.0; bound = subst (λ o. IfSome o (λ n. n ≤ 9999)) (sym is) p.1 }
+    let done = size-done c.args.digits.now _ _ c.loop-b.invariant.0 c.loop-b-test.false c.loop-b.invariant.1 in
+    record { value = done.0; bound = done.1 }
