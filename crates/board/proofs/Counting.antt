@@ -17,7 +17,7 @@ use Rattle.sets.specs.Sets.{Numbers, nothing, PopsFirst}
 use Rattle.board.specs.Index.{blank, waits, waits_for}
 use Rattle.board.specs.declared.wire.Setting.{Setting}
 use Rattle.board.specs.declared.swing.Swing.TheVariants.{Starts, Stops}
-use Rattle.board.proofs.Ways.{Swung, outlet-below, through-one, through-put, through-swing, span-keys, leads-is}
+use Rattle.board.proofs.Ways.{Swung, through-one, through-put, through-swing, span-keys, leads-is}
 
 by_hit : (x y was on : Bool) (new old n m : ℕ) → was ≡ not on → x ≡ y → new + cond (x && was) 1 0 ≡ old + cond (x && on) 1 0 → m + old ≡ n + new → m + cond on 0 (cond y 1 0) ≡ n + cond on (cond y 1 0) 0
 by_hit x y was on new old n m other same one more = grind (arith, nat_tests)
@@ -46,14 +46,6 @@ by_limit true m n by moved few many = (omega arith, omega arith)
 by_limit false m n by moved few many = (omega arith, omega arith)
 
 module _ (h : Wiring) where
-  -- a place of a row below that has places
-  pub place_within : (b q : ℕ) → q < beneath h b → (b < 16) × (q < 128)
-  place_within b q l = let low = h.below.low b in (grind (arith, nat_tests), grind (arith, nat_tests))
-
-  pub outlet-within : (w : Lead) (row key : ℕ) (t : ℕ × ℕ) → outlet (beneath h) (panel h) w row key ≡ Some t → (t.0 < 16) × (t.1 < 128)
-  outlet-within w row key t e =
-      place_within t.0 t.1 (outlet-below (beneath h) (panel h) w row key t e)
-
   module _ (row key : ℕ) (on : Bool) (b q : ℕ) where
     -- how many ways a wire has after the key is put, and before
     abbrev pub key_new : Lead → ℕ

@@ -1,5 +1,5 @@
 -- The checks of a wire, and a board with one wire more. Assumes nothing.
-use Rattle.std.proofs.Common.{◌≡◌, ℕ, ◌<◌, Bool, true, false, cond, not, ltb, List, [], ◌∷◌, ◌++◌, length, is_ok, IfErr, Ok, Err, Result, sym, refl, ap, ◌∙◌, arith}
+use Rattle.std.proofs.Common.{◌≡◌, ℕ, ◌<◌, Bool, true, false, cond, not, ltb, List, [], ◌∷◌, ◌++◌, length, is_ok, Ok, Err, sym, refl, ap, ◌∙◌, arith}
 use Rattle.std.proofs.lemmas.Bool.{both_ways, lt-ltb}
 use Rattle.std.proofs.lemmas.Bool.Decides.{nat_tests}
 use Rattle.chest.specs.Meaning.{Meaning}
@@ -37,17 +37,9 @@ fit_checks l m w free room =
     ap (λ x. cond x (cond (ltb (length l.wires) 128) (checked (wire_checks l m w) tt) (Err Full)) (Err Held)) free
     ∙ ap (λ x. cond x (checked (wire_checks l m w) tt) (Err Full)) (lt-ltb (length l.wires) 128 room)
 
-pub fit_refused : (l : Layout) (m : Meaning) (w : Wire) (e : BoardFault) → fit_answer l m w ≡ Err e → fit_after l m w ≡ board_meaning l m
-fit_refused l m w e is =
-    ap (λ a. cond (is_ok a) (board_meaning (with_wire l (lead_of w)) m) (board_meaning l m)) is
-
 pub fit_done : (l : Layout) (m : Meaning) (w : Wire) → fit_answer l m w ≡ Ok tt → fit_after l m w ≡ board_meaning (with_wire l (lead_of w)) m
 fit_done l m w is =
     ap (λ a. cond (is_ok a) (board_meaning (with_wire l (lead_of w)) m) (board_meaning l m)) is
-
-pub refused_so : {X Y A : Type 0} (r : Result X Y) → A → IfErr r (λ _. A)
-refused_so (Ok x) a = tt
-refused_so (Err y) a = a
 
 -- a register that is free holds no place
 pub free_of : (h : Wiring) → is_free (register h) ≡ true → (r p : ℕ) → register h r p ≡ false

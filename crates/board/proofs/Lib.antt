@@ -2,7 +2,6 @@ pub mod Sums
 pub mod Ways
 pub mod Counting
 pub mod Images
-pub mod Tables
 pub mod Standing
 pub mod Boards
 pub mod Fits

@@ -41,12 +41,7 @@ total-once (suc n) f small once =
     omega (arith, small n))
     (cases_eq (f n) 0)
 
--- a part of a sum, and a sum with nothing in its rest
-pub total-part : (m n : ℕ) (f : ℕ → ℕ) → m ≤ n → total m f ≤ total n f
-total-part m n f h =
-    let all : m + (n - m) ≡ n = omega arith in
-    omega (arith, total-add m (n - m) f, ap (λ k. total k f) all)
-
+-- a sum with nothing in its rest
 pub total-past : (m n : ℕ) (f : ℕ → ℕ) → m ≤ n → ((k : ℕ) → m ≤ k → f k ≡ 0) → total n f ≡ total m f
 total-past m n f h none =
     let all : m + (n - m) ≡ n = omega arith in
@@ -62,10 +57,6 @@ pub some_more : (n : ℕ) (f : ℕ → Bool) → some (n + 1) f ≡ (some n f ||
 unfolding some
 some_more n f = ap (λ m. some m f) (add-one n)
 
-pub some-zero : (f : ℕ → Bool) → some 0 f ≡ false
-unfolding some
-some-zero f = refl
-
 pub some-found : (n k : ℕ) (f : ℕ → Bool) → k < n → f k ≡ true → some n f ≡ true
 unfolding some
 some-found zero k f h e = absurd (omega arith)
@@ -74,10 +65,6 @@ some-found (suc n) k f h e =
     (λ (same : k ≡ n). or_right (some n f) (f n) (sym (ap f same) ∙ e))
     (λ (ne : k ≢ n). or_left (some n f) (f n) (some-found n k f (omega arith) e))
     (cases_eq k n)
-
-pub some-none : (n : ℕ) (f : ℕ → Bool) → ((k : ℕ) → k < n → f k ≡ false) → some n f ≡ false
-some-none n f none =
-    some-total n f ∙ ap (ltb 0) (total-zero n (λ k. cond (f k) 1 0) (λ k h. ap (λ x. cond x 1 0) (none k h)))
 
 pub some-past : (m n : ℕ) (f : ℕ → Bool) → m ≤ n → ((k : ℕ) → m ≤ k → f k ≡ false) → some n f ≡ some m f
 some-past m n f h none =

@@ -1,9 +1,8 @@
 -- One step of each walk over a chest. Assumes nothing.
-use Rattle.std.proofs.Common.{◌≡◌, ℕ, ◌+◌, ◌<◌, Bool, true, false, cond, ◌&&◌, nat_lt, sym, refl, ap, ◌∙◌, arith}
-use Rattle.std.proofs.lemmas.Bool.{false≢true}
+use Rattle.std.proofs.Common.{◌≡◌, ℕ, ◌+◌, ◌<◌, Bool, sym, ap, ◌∙◌, arith}
 use Rattle.std.proofs.lemmas.Bool.Decides.{nat_tests}
 use Rattle.chest.specs.Places.{Places, none, put}
-use Rattle.chest.specs.Meaning.{Meaning, Bounded, Becomes, set_after, with_register}
+use Rattle.chest.specs.Meaning.{Meaning, Becomes, set_after, with_register}
 use Rattle.chest.proofs.Calls.{set-done}
 use Rattle.chest.specs.Walks.{row_shown, rows_out}
 
@@ -29,19 +28,3 @@ stepped meaning settled f walked called is start =
     let at = walked start in
     let then = called at.0 in
     (then.0, then.1 ∙ ap f at.1 ∙ is)
-
--- with all rows out no place is left
-pub all_out : (m : Meaning) → Bounded m → (rows_out m 16).register ≡ none
-all_out m b = λ i r p. one r p i where
-  one : (r p : ℕ) → (rows_out m 16).register r p ≡ false
-  one r p = by (nat_lt r 16 && nat_lt p (m.reach r)) (m.register r p) inside where
-    by : (x y : Bool) → (y ≡ true → x ≡ true) → cond x false y ≡ false
-    by true y h = refl
-    by false true h = absurd (false≢true (h refl))
-    by false false h = refl
-
-    inside : m.register r p ≡ true → (nat_lt r 16 && nat_lt p (m.reach r)) ≡ true
-    inside e =
-        let low = b.register r p e in
-        let rows = b.rows r in
-        grind (arith, nat_tests)
