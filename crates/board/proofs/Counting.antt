@@ -45,6 +45,10 @@ by_limit : (up : Bool) (m n by : ℕ) → m + cond up 0 by ≡ n + cond up by 0 
 by_limit true m n by moved few many = (omega arith, omega arith)
 by_limit false m n by moved few many = (omega arith, omega arith)
 
+-- a place is the one that it is
+pub met : (b q : ℕ) → (eqb b b && eqb q q) ≡ true
+met b q = grind (arith, nat_tests)
+
 module _ (h : Wiring) where
   module _ (row key : ℕ) (on : Bool) (b q : ℕ) where
     -- how many ways a wire has after the key is put, and before

@@ -1,20 +1,16 @@
 -- Each wire that leads somewhere from the key is walked once.
-use Rattle.std.proofs.Common.{◌≡◌, ℕ, true, get_or, is_some, Some, sym, ap, ◌∙◌, subst, arith}
-use Rattle.std.proofs.lemmas.Bool.Decides.{nat_tests}
+use Rattle.std.proofs.Common.{◌≡◌, get_or, is_some, Some, sym, ap, ◌∙◌, subst}
 use Rattle.sets.specs.Members.{remaining}
 use Rattle.board.specs.declared.wire.Lead.{Lead}
-use Rattle.board.specs.Wiring.{beneath, panel, wires, outlet, meets, spot}
+use Rattle.board.specs.Wiring.{beneath, panel, wires, outlet, spot}
 use Rattle.board.specs.Swings.{starts}
 use Rattle.board.specs.Counts.{at_place}
 use Rattle.board.proofs.Sums.{mixed_start, mixed_end, left_less}
 use Rattle.board.proofs.Among.{among_in, still_in, left_out}
 use Rattle.board.proofs.Ways.{outlet-below}
-use Rattle.board.proofs.Counting.{key_new, key_old, key_same, key_room, key_more}
+use Rattle.board.proofs.Counting.{met, key_new, key_old, key_same, key_room, key_more}
 use Rattle.board.proofs.Standing.{keeps_same, keeps_more}
 use Rattle.board.proofs.below.Below.swing_key.Goals as goal
-
-met : (to place : ℕ) → meets (Some (to, place)) to place ≡ true
-met to place = grind (arith, nat_tests)
 
 pub loop-number-init : goal.loop-number-init
 loop-number-init g c =

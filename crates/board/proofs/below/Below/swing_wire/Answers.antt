@@ -1,19 +1,15 @@
 -- Each set key of the wire's row is walked once.
-use Rattle.std.proofs.Common.{◌≡◌, ℕ, ◌+◌, ◌<◌, true, cond, ◌&&◌, eqb, Some, None, sym, ap, ◌∙◌, subst, arith}
+use Rattle.std.proofs.Common.{◌≡◌, ◌+◌, ◌<◌, cond, Some, None, sym, ap, ◌∙◌, subst, arith}
 use Rattle.std.specs.Option.{option_map}
-use Rattle.std.proofs.lemmas.Bool.Decides.{nat_tests}
 use Rattle.sets.specs.Members.{remaining}
 use Rattle.board.specs.Wiring.{beneath, register}
 use Rattle.board.specs.Swings.{starts}
 use Rattle.board.specs.Counts.{at_place, Fits, one_at}
 use Rattle.board.proofs.Sums.{left_less}
 use Rattle.board.proofs.Ways.{lands-below}
-use Rattle.board.proofs.Counting.{wire_start, wire_stays, wire_all, wire_more, wire_room}
+use Rattle.board.proofs.Counting.{met, wire_start, wire_stays, wire_all, wire_more, wire_room}
 use Rattle.board.proofs.Standing.{keeps_same, keeps_more}
 use Rattle.board.proofs.below.Below.swing_wire.Goals as goal
-
-met : (b q : ℕ) → (eqb b b && eqb q q) ≡ true
-met b q = grind (arith, nat_tests)
 
 pub loop-key-init : goal.loop-key-init
 loop-key-init g c =
