@@ -3,7 +3,7 @@ use Rattle.std.proofs.Common.{◌≡◌, ℕ, zero, suc, ◌<◌, ◌≤◌, Boo
 use Rattle.std.proofs.lemmas.List.{get_or-map}
 use Rattle.std.proofs.lemmas.Bool.{cases_lt, false≢true}
 use Rattle.std.proofs.lemmas.Bool.Decides.{nat_tests}
-use Rattle.sets.specs.Sets.{Numbers, PopsFirst}
+use Rattle.sets.specs.Numbers.{Numbers, PopsFirst}
 use Rattle.board.specs.declared.wire.Lead.{Lead}
 use Rattle.board.specs.Index.{among, blank}
 

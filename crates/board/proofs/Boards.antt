@@ -6,7 +6,7 @@ use Rattle.chest.specs.Places.{none, put}
 use Rattle.chest.specs.Meaning.{Meaning, Panel, Bounded, with_register, with_panel, knob_to}
 use Rattle.board.specs.Wires.{Reaches, image}
 use Rattle.board.specs.Layout.{Layout, with_key, with_knob, image_of}
-use Rattle.board.specs.Board.{board_meaning, Stands}
+use Rattle.board.specs.RelayBoard.{board_meaning, Stands}
 use Rattle.chest.specs.Positions.{panel_of}
 use Rattle.board.specs.Making.{bare, new_meaning}
 use Rattle.board.proofs.Images.{image-free}

@@ -8,12 +8,12 @@ use Rattle.chest.proofs.Totals.{total-zero}
 use Rattle.board.specs.declared.wire.Lead.{Lead}
 use Rattle.board.specs.declared.wiring.Wiring.{Wiring}
 use Rattle.board.specs.declared.swing.Swing.{Swing}
-use Rattle.board.specs.Swings.{starts}
+use Rattle.board.specs.Swing.{starts}
 use Rattle.board.specs.Wires.{landing, is_at, leads, span, through}
 use Rattle.board.specs.Wiring.{beneath, register, panel, wires, outlet, meets, swing, swing_of}
 use Rattle.board.specs.Counts.{at_place, Fits, Moves, Room}
 use Rattle.board.proofs.Sums.{mixed, mixed_more, mixed-le, left_more}
-use Rattle.sets.specs.Sets.{Numbers, nothing, PopsFirst}
+use Rattle.sets.specs.Numbers.{Numbers, nothing, PopsFirst}
 use Rattle.board.specs.Index.{blank, waits, waits_for}
 use Rattle.board.specs.declared.wire.Setting.{Setting}
 use Rattle.board.specs.declared.swing.Swing.TheVariants.{Starts, Stops}

@@ -11,7 +11,7 @@ use Rattle.board.specs.declared.fault.BoardFault.TheVariants.{Held, Full}
 use Rattle.board.specs.Wires.{some}
 use Rattle.board.specs.Wiring.{own, register}
 use Rattle.board.specs.Layout.{Layout, with_wire}
-use Rattle.board.specs.Board.{board_meaning, Stands}
+use Rattle.board.specs.RelayBoard.{board_meaning, Stands}
 use Rattle.board.specs.Fitting.{checked, is_free, wire_checks, fit_answer, fit_after, lead_of}
 use Rattle.board.proofs.Sums.{some-found}
 use Rattle.board.proofs.Images.{image-free}

@@ -5,8 +5,8 @@ use Rattle.std.proofs.lemmas.List.{get_or-set_same, get_or-set_other, get_or_def
 use Rattle.std.proofs.lemmas.Bool.{cases_eq, false≢true, leb-true, ltb-true}
 use Rattle.std.proofs.lemmas.Bool.Decides.{nat_tests}
 use Rattle.sets.specs.declared.set.NumberSet.{NumberSet}
-use Rattle.sets.specs.Sets.{with_number}
-use Rattle.sets.specs.Members.{members, empty}
+use Rattle.sets.specs.Numbers.{with_number}
+use Rattle.sets.specs.NumberSet.{members, empty}
 use Rattle.board.specs.declared.wire.Lead.{Lead}
 use Rattle.chest.specs.Meaning.{Panel, knob_to}
 use Rattle.board.specs.Wires.{Reaches, live, stands, landing}

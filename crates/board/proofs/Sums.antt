@@ -10,7 +10,7 @@ use Rattle.std.proofs.lemmas.Bool.Decides.{nat_tests}
 use Rattle.chest.specs.Places.{total}
 use Rattle.board.specs.Wires.{some}
 use Rattle.chest.proofs.Totals.{total_ext, total-zero, total-add, total-le}
-use Rattle.sets.specs.Sets.{Numbers, nothing, with_number, PopsFirst}
+use Rattle.sets.specs.Numbers.{Numbers, nothing, with_number, PopsFirst}
 
 -- two sums whose terms differ at one number at most
 pub total-change : (n k : ℕ) (f g : ℕ → ℕ) → ((j : ℕ) → j ≢ k → f j ≡ g j) → total n f + cond (nat_lt k n) (g k) 0 ≡ total n g + cond (nat_lt k n) (f k) 0

@@ -12,7 +12,7 @@ use Rattle.board.specs.declared.wire.Setting.{Setting}
 use Rattle.board.specs.Wires.{Reaches, live, stands, landing, is_at, leads, way, span, through}
 use Rattle.board.specs.declared.swing.Swing.{Swing}
 use Rattle.board.specs.declared.swing.Swing.TheVariants.{Starts, Stops}
-use Rattle.board.specs.Swings.{starts}
+use Rattle.board.specs.Swing.{starts}
 use Rattle.board.specs.Wiring.{outlet, meets, swing, swing_of}
 use Rattle.board.proofs.Sums.{total-change, total-once, total-past}
 

@@ -11,7 +11,7 @@ use Rattle.board.specs.declared.fault.RowRefused.{RowRefused}
 use Rattle.board.specs.declared.fault.BoardFault.TheVariants.{Held, Full, Keys, ToRow, NoPlaces, Shift, Knob, Position}
 use Rattle.board.specs.Wires.{some}
 use Rattle.board.specs.Layout.{Layout, with_wire}
-use Rattle.board.specs.Board.{board_meaning}
+use Rattle.board.specs.RelayBoard.{board_meaning}
 
 -- the first check that does not pass gives its fault
 abbrev pub checked : {X : Type 0} → List (Bool × BoardFault) → X → Result X BoardFault

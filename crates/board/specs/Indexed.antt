@@ -1,7 +1,7 @@
 -- What the tables of wires by row and key and by knob hold. Assumes nothing.
 use Rattle.std.specs.Prelude.{ℕ, slice_index_or}
-use Rattle.sets.specs.Sets.{Numbers}
-use Rattle.sets.specs.Members.{members, empty}
+use Rattle.sets.specs.Numbers.{Numbers}
+use Rattle.sets.specs.NumberSet.{members, empty}
 use Rattle.board.specs.declared.index.Outlets.{Outlets}
 use Rattle.board.specs.declared.index.Waiting.{Waiting}
 

@@ -1,13 +1,13 @@
-pub mod Faults
+pub mod BoardFault
 pub mod Wires
 pub mod Index
 pub mod Indexed
-pub mod Swings
+pub mod Swing
 pub mod Wiring
 pub mod Layout
 pub mod Counts
 pub mod Below
-pub mod Board
+pub mod RelayBoard
 pub mod Sending
 pub mod Fitting
 pub mod Making

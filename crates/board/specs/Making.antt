@@ -5,7 +5,7 @@ use Rattle.chest.specs.Meaning.{Meaning, Panel}
 use Rattle.chest.specs.Reaches.{reach_of}
 use Rattle.board.specs.Wires.{Reaches}
 use Rattle.board.specs.Layout.{Layout}
-use Rattle.board.specs.Board.{board_meaning}
+use Rattle.board.specs.RelayBoard.{board_meaning}
 
 -- a board with no wire and no key
 abbrev pub bare : List ℕ → Reaches → Panel → Layout

@@ -6,7 +6,7 @@ use Rattle.chest.specs.Meaning.{Meaning, Panel, Bounded}
 use Rattle.board.specs.declared.wire.Lead.{Lead}
 use Rattle.board.specs.Wires.{Reaches, live, leads, way, some, some_wire, image}
 use Rattle.board.specs.Layout.{Layout}
-use Rattle.board.specs.Board.{board_meaning}
+use Rattle.board.specs.RelayBoard.{board_meaning}
 
 never : (n : ℕ) (f : ℕ → Bool) → ((k : ℕ) → f k ≡ false) → some n f ≡ false
 unfolding some

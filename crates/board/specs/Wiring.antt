@@ -1,7 +1,7 @@
 -- What the tables of a board hold. Assumes nothing.
 use Rattle.std.specs.Prelude.{ℕ, Bool, false, cond, ◌&&◌, List, Some, None, Option, ◌==◌, nat_le, slice_index_or}
 use Rattle.std.specs.Option.{option_map}
-use Rattle.sets.specs.Members.{members, empty}
+use Rattle.sets.specs.NumberSet.{members, empty}
 use Rattle.chest.specs.Places.{Places}
 use Rattle.chest.specs.Meaning.{Panel}
 use Rattle.chest.specs.declared.place.Place.{Place}

@@ -1,9 +1,9 @@
-// The chest below a board, with the number of ways to each of its places: walks over the wires that keep the numbers
-// right, and the chest with them, where a key is put or a knob turns.
+//! The chest below a board, with the number of ways to each of its places: walks over the wires that keep the numbers
+//! right, and the chest with them, where a key is put or a knob turns.
 ghost use Rattle.std.specs.Prelude.{◌≡◌, ◌<◌, not, nat_lt};
 ghost use Rattle.board.specs.Wires.{Reaches, span};
 ghost use Rattle.board.specs.Layout.{layout, with_key, with_knob};
-ghost use Rattle.board.specs.Swings.{starts};
+ghost use Rattle.board.specs.Swing.{starts};
 ghost use Rattle.board.specs.Counts.{at_place, Exact, Fits, Moves, Room, one_at};
 
 use crate::reads::Turn;

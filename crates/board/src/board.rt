@@ -1,4 +1,4 @@
-// The relay board: a chest that plays the chest below through its wires.
+//! The relay board: a chest that plays the chest below through its wires.
 ghost use Rattle.board.specs.Layout.{layout};
 ghost use Rattle.board.specs.Counts.{Exact};
 
@@ -12,7 +12,7 @@ use chest::place::Place;
 use chest::sender::Sender;
 use chest::setting::Setting;
 
-// Each number of ways is exact: one that wraps or lags behind cannot be made.
+/// Each number of ways is exact: one that wraps or lags behind cannot be made.
 #[derive(Drop)]
 pub struct RelayBoard<C> {
     pub(crate) wiring: Wiring,
@@ -24,9 +24,9 @@ impl<C: Chest> RelayBoard<C> {
     ghost use Rattle.std.specs.Prelude.{◌≡◌, ◌<◌, not};
     ghost use Rattle.chest.specs.Places.{put};
     ghost use Rattle.chest.specs.Meaning.{with_register, with_panel, knob_to};
-    ghost use Rattle.board.specs.Board.{meaning_of, Becomes};
+    ghost use Rattle.board.specs.RelayBoard.{meaning_of, Becomes};
 
-    // The chest below, to look at.
+    /// The chest below, to look at.
     pub fn below(&self) -> &C
         ensures { result.now ≡ self.now.below.chest }
     {
@@ -57,7 +57,7 @@ impl<C: Chest> RelayBoard<C> {
 impl<C: Chest> Chest for RelayBoard<C> {
     ghost use Rattle.std.proofs.Common.{arith};
     ghost use Rattle.std.proofs.lemmas.Bool.Decides.{nat_tests};
-    ghost use Rattle.board.specs.Board.{meaning_of, Settled};
+    ghost use Rattle.board.specs.RelayBoard.{meaning_of, Settled};
     ghost use Rattle.board.specs.Quiet.{board_quiet, board_bounded};
 
     ghost meaning = { meaning_of C.Chest.meaning };

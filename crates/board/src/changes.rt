@@ -1,4 +1,4 @@
-// The changes of a board's wiring: a key, a knob, a wire.
+//! The changes of a board's wiring: a key, a knob, a wire.
 ghost use Rattle.std.specs.Prelude.{◌≡◌, ◌<◌, length};
 ghost use Rattle.board.specs.Layout.{layout, with_key, with_knob, with_wire};
 

@@ -1,11 +1,11 @@
-// The faults of a board that refuses a wire.
+//! The faults of a board that refuses a wire.
 ghost use Rattle.std.specs.Prelude.{◌≡◌};
-ghost use Rattle.board.specs.Faults.{number_of};
+ghost use Rattle.board.specs.BoardFault.{number_of};
 ghost use Rattle.board.specs.declared.fault.BoardFault.TheVariants.{ToRow};
 
 use chest::fault::ChestFault;
 
-// The to-row of an offered wire, with the fault that the chest below gives to it.
+/// The to-row of an offered wire, with the fault that the chest below gives to it.
 #[derive(Clone, Copy, Debug, PartialEq)]
 pub struct RowRefused {
     pub from: u16,
@@ -15,21 +15,21 @@ pub struct RowRefused {
 
 #[derive(Clone, Copy, Debug, PartialEq)]
 pub enum BoardFault {
-    // Some place of the board's register is set.
+    /// Some place of the board's register is set.
     Held,
-    // The board has as many wires as it takes.
+    /// The board has as many wires as it takes.
     Full,
-    // The from-row is 16 or more, the lowest key above the highest, or the highest not below the reach.
+    /// The from-row is 16 or more, the lowest key above the highest, or the highest not below the reach.
     Keys { from: u16, to: u16 },
-    // The chest below has no such to-row.
+    /// The chest below has no such to-row.
     ToRow(RowRefused),
-    // The to-row has no places.
+    /// The to-row has no places.
     NoPlaces { from: u16, to: u16 },
-    // The shift is outside -96 to 96.
+    /// The shift is outside -96 to 96.
     Shift { from: u16, to: u16 },
-    // The knob is 65 or more.
+    /// The knob is 65 or more.
     Knob { knob: u16 },
-    // The position is 16 or more.
+    /// The position is 16 or more.
     Position { knob: u16 },
 }
 
@@ -42,7 +42,7 @@ impl From<RowRefused> for BoardFault {
 }
 
 impl BoardFault {
-    // The number under which it is documented, which is the product's own.
+    /// The number under which it is documented, which is the product's own.
     pub fn number(self) -> u8
         ensures { result ≡ number_of self }
     {

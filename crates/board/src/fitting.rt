@@ -1,9 +1,9 @@
-// Fitting a wire to a board.
+//! Fitting a wire to a board.
 ghost use Rattle.std.specs.Prelude.{◌≡◌, ◌<◌, OnErr, OnOk};
 ghost use Rattle.board.specs.Wiring.{register};
 ghost use Rattle.board.specs.Wires.{some};
 ghost use Rattle.board.specs.Layout.{layout, with_wire};
-ghost use Rattle.board.specs.Board.{Becomes};
+ghost use Rattle.board.specs.RelayBoard.{Becomes};
 ghost use Rattle.board.specs.Fitting.{checked, is_free, wire_checks, setting_of, fit_answer, fit_after, lead_of, to_reach};
 
 use crate::board::RelayBoard;
@@ -94,7 +94,7 @@ impl<C: Chest> RelayBoard<C> {
         })
     }
 
-    // Fits a wire after those that are fitted, while no place of the register is set.
+    /// Fits a wire after those that are fitted, while no place of the register is set.
     pub fn fit(&mut self, wire: Wire) -> Result<(), BoardFault>
         ensures answer { result ≡ fit_answer (layout self.old.wiring) (C.Chest.meaning self.old.below.chest) wire }
         ensures same { OnErr result (self.new ≡ self.old) }

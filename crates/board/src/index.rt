@@ -1,8 +1,8 @@
-// Which wires a board has to look at: those that lead somewhere from a key, and those that wait for a knob. So it walks no
-// wire that a call does not touch.
+//! Which wires a board has to look at: those that lead somewhere from a key, and those that wait for a knob. So it walks no
+//! wire that a call does not touch.
 ghost use Rattle.std.specs.Prelude.{◌≡◌, ℕ, ◌<◌, ◌==◌, cond, ◌&&◌, true, length};
-ghost use Rattle.sets.specs.Sets.{nothing, both};
-ghost use Rattle.sets.specs.Members.{members};
+ghost use Rattle.sets.specs.Numbers.{nothing, both};
+ghost use Rattle.sets.specs.NumberSet.{members};
 ghost use Rattle.chest.specs.Reaches.{reaches_of};
 ghost use Rattle.board.specs.Index.{leads_from, lands, waits};
 

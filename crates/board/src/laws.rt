@@ -1,7 +1,7 @@
-// The laws of the image, as a contract.
+//! The laws of the image, as a contract.
 ghost use Rattle.board.specs.Laws.{ImageLaw};
 
-// What is in the image of a register, in words: it comes from set keys through live wires, and from nothing else.
+/// What is in the image of a register, in words: it comes from set keys through live wires, and from nothing else.
 pub fn image_law()
     ensures { ImageLaw }
 {}

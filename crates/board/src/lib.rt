@@ -1,4 +1,4 @@
-// The relay board: a chest over any chest below, which it plays through its wires.
+//! The relay board: a chest over any chest below, which it plays through its wires.
 #![tactic(auto)]
 
 mod below;

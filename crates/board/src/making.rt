@@ -1,11 +1,11 @@
-// Making a board over a chest.
+//! Making a board over a chest.
 ghost use Rattle.std.specs.Prelude.{◌≡◌};
 ghost use Rattle.chest.specs.Places.{none};
 ghost use Rattle.chest.specs.Positions.{positions_of};
 ghost use Rattle.chest.specs.Reaches.{reaches_of};
 ghost use Rattle.chest.specs.Meaning.{Becomes, with_register};
 ghost use Rattle.board.specs.Layout.{layout};
-ghost use Rattle.board.specs.Board.{meaning_of, Settled};
+ghost use Rattle.board.specs.RelayBoard.{meaning_of, Settled};
 ghost use Rattle.board.specs.Making.{bare, new_layout, new_meaning};
 
 use crate::below::Below;
@@ -38,7 +38,7 @@ impl Wiring {
 }
 
 impl<C: Chest> RelayBoard<C> {
-    // A board with no wires over a chest whose register it clears. A reach above 128 counts as 128.
+    /// A board with no wires over a chest whose register it clears. A reach above 128 counts as 128.
     pub fn new(mut below: C, reaches: [u8; ROWS]) -> RelayBoard<C>
         ensures items { layout result.wiring ≡ new_layout reaches (C.Chest.meaning result.below.chest) }
         ensures cleared { Becomes C.Chest.meaning C.Chest.settled below result.below.chest (with_register (C.Chest.meaning below) none) }

@@ -1,7 +1,7 @@
-// What the tables of a board answer.
+//! What the tables of a board answer.
 ghost use Rattle.std.specs.Prelude.{◌≡◌, ◌≢◌, ◌<◌, ◌&&◌, ℕ, true, if◌then◌else◌, length, slice_index_or, nat_le, Some, None, is_some, IfSome};
 ghost use Rattle.std.specs.Option.{option_map};
-ghost use Rattle.sets.specs.Members.{members};
+ghost use Rattle.sets.specs.NumberSet.{members};
 ghost use Rattle.chest.specs.Meaning.{knob_to};
 ghost use Rattle.chest.specs.Positions.{positions_of};
 ghost use Rattle.chest.specs.Reaches.{reaches_of};

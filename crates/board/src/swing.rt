@@ -1,6 +1,6 @@
-// What becomes of a way.
+//! What becomes of a way.
 ghost use Rattle.std.specs.Prelude.{◌≡◌};
-ghost use Rattle.board.specs.Swings.{starts};
+ghost use Rattle.board.specs.Swing.{starts};
 
 #[derive(Clone, Copy, Debug, PartialEq)]
 pub(crate) enum Swing {

@@ -1,6 +1,6 @@
-// The wires of a board, and the keys and knobs that drive them.
+//! The wires of a board, and the keys and knobs that drive them.
 ghost use Rattle.std.specs.Prelude.{◌≡◌, ℕ, ◌<◌, ◌≤◌, true, length, slice_index_or};
-ghost use Rattle.sets.specs.Members.{members, empty};
+ghost use Rattle.sets.specs.NumberSet.{members, empty};
 ghost use Rattle.chest.specs.Positions.{positions_of};
 ghost use Rattle.chest.specs.Reaches.{reaches_of};
 ghost use Rattle.board.specs.Wires.{live};

@@ -1,4 +1,4 @@
-// Wires that are fitted and wires that are refused.
+//! Wires that are fitted and wires that are refused.
 use super::*;
 
 #[test]

@@ -1,4 +1,4 @@
-// Keys through wires that are always live.
+//! Keys through wires that are always live.
 use super::*;
 
 // Stops at shift 0 and 12: keys 0 and 12 make pipes 0, 12 and 24 speak, and lifting 12 stops only 24.

@@ -1,4 +1,4 @@
-// Wires that a knob makes live.
+//! Wires that a knob makes live.
 use super::*;
 
 // Two wires that differ only in their knob: the pipe stops once both are off.

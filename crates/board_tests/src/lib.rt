@@ -1,16 +1,16 @@
-// Stacks of boards over a magnet chest, and lists of steps to play on them.
+//! Stacks of boards over a magnet chest, and lists of steps to play on them.
 #![tactic(auto)]
 
 use board::board::RelayBoard;
 use board::fault::BoardFault;
 use board::wire::Wire;
-use bottom::magnet::MagnetChest;
+use bottom::magnet_chest::MagnetChest;
 use bottom::midi_chest::MidiChest;
 use chest::chest::Chest;
 
 pub mod stack;
 
-// What is done to a chest, and how many pipes change at the strobe after it.
+/// What is done to a chest, and how many pipes change at the strobe after it.
 #[derive(Clone, Copy)]
 pub struct Step {
     act: Act,

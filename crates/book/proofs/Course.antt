@@ -6,9 +6,9 @@ use Rattle.std.proofs.lemmas.Bool.{cond-true, cond-false, cases_Bool, le-ltb, lt
 use Rattle.book.specs.declared.faults.BookFault.{BookFault}
 use Rattle.book.specs.declared.record.Book.{Book}
 use Rattle.book.specs.Bytes.{line_end, inside, first_outside}
-use Rattle.book.specs.Entries.{Entry, Holds}
+use Rattle.book.specs.Entry.{Entry, Holds}
 use Rattle.book.specs.Limits.{most_bytes}
-use Rattle.book.specs.Passages.{Comes}
+use Rattle.book.specs.Passage.{Comes}
 use Rattle.book.specs.declared.passage.Passage.{Passage}
 pub use Rattle.book.proofs.Gluing.{cut-some}
 use Rattle.book.proofs.Gluing.{glued}

@@ -7,11 +7,11 @@ use Rattle.book.specs.declared.faults.BookFault.{BookFault}
 use Rattle.book.specs.declared.faults.BookFault.TheVariants as fault
 use Rattle.book.specs.declared.forms.Form.{Form}
 use Rattle.book.specs.declared.forms.Head.{Head}
-use Rattle.book.specs.Entries.{Entry}
-use Rattle.book.specs.Faults.{line_of}
-use Rattle.book.specs.Forms.{form_from}
+use Rattle.book.specs.Entry.{Entry}
+use Rattle.book.specs.BookFault.{line_of}
+use Rattle.book.specs.Form.{form_from}
 use Rattle.book.specs.Grammar.{written, Faulty}
-use Rattle.book.specs.Heads.{head_of, spelling, takes}
+use Rattle.book.specs.Head.{head_of, spelling, takes}
 use Rattle.book.specs.Pieces.{Shape, shape_of}
 use Rattle.book.specs.Reading.{clean, in_range, counted, form_of, some_form, shaped, line_form}
 use Rattle.book.proofs.Clash.{ok_err, ok_same, err_same}

@@ -10,10 +10,10 @@ use Rattle.book.specs.declared.forms.Form.{Form}
 use Rattle.book.specs.declared.forms.Form.TheVariants as form
 use Rattle.book.specs.declared.forms.Head.{Head}
 use Rattle.book.specs.declared.forms.Head.TheVariants as head
-use Rattle.book.specs.Entries.{InRange}
-use Rattle.book.specs.Forms.{given, within, natural, row_from, knob_from, piston_from, wire_from, form_from, board_of, nth}
+use Rattle.book.specs.Entry.{InRange}
+use Rattle.book.specs.Form.{given, within, natural, row_from, knob_from, piston_from, wire_from, form_from, board_of, nth}
 use Rattle.book.specs.Grammar.{head_in, numbers_in, board_number}
-use Rattle.book.specs.Heads.{takes}
+use Rattle.book.specs.Head.{takes}
 use Rattle.book.specs.Limits.{rows}
 use Rattle.book.specs.Reading.{formed, in_range}
 use Rattle.book.specs.declared.faults.BookFault.{BookFault}

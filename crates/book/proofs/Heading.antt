@@ -13,9 +13,9 @@ use Rattle.book.specs.declared.forms.Form.TheVariants as form
 use Rattle.book.specs.declared.forms.Head.{Head}
 use Rattle.book.specs.declared.forms.Head.TheVariants as head
 use Rattle.book.specs.Bytes.{allowed, letter, numeric, closing}
-use Rattle.book.specs.Entries.{InRange}
+use Rattle.book.specs.Entry.{InRange}
 use Rattle.book.specs.Grammar.{head_in, numbers_in, number_text, written, form_text, Word, Short}
-use Rattle.book.specs.Heads.{head_of, spelling, takes}
+use Rattle.book.specs.Head.{head_of, spelling, takes}
 use Rattle.book.specs.Pieces.{Shape}
 use Rattle.book.specs.Reading.{clean, in_range, counted, some_form, shaped, line_form}
 use Rattle.book.proofs.Forming.{form_sound, form_complete}

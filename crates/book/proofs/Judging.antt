@@ -7,9 +7,9 @@ use Rattle.book.specs.declared.faults.BookFault.{BookFault}
 use Rattle.book.specs.declared.faults.BookFault.TheVariants as fault
 use Rattle.book.specs.declared.forms.Form.{Form}
 use Rattle.book.specs.declared.record.Book.{Book}
-use Rattle.book.specs.Entries.{Entry, Holds}
+use Rattle.book.specs.Entry.{Entry, Holds}
 use Rattle.book.specs.Grammar.{head_in, numbers_in, form_text, text_of, entries_from, entries_of, Fits, FitAfter, Refused, Rejects, Judged, SaidBy, Accepts}
-use Rattle.book.specs.Heads.{spelling}
+use Rattle.book.specs.Head.{spelling}
 use Rattle.book.specs.Limits.{most_bytes}
 use Rattle.book.specs.Reading.{placed, with_line, cut, and_then, lines_from, read_of, Answers}
 use Rattle.book.proofs.Course.{more_lines}

@@ -1,15 +1,15 @@
 -- A line of the right shape, up to its form. Assumes nothing.
 use Rattle.std.proofs.Common.{◌≡◌, ℕ, true, cond, eqb, List, length, Some, None, Ok, Err, Option, Result, sym, refl, ap, ◌∙◌, ⊎_elim, arith}
 use Rattle.std.proofs.lemmas.Bool.{cond-true, cond-false, ne_eqb, cases_Bool, eqb-true}
-use Rattle.book.specs.Entries.{InRange}
+use Rattle.book.specs.Entry.{InRange}
 use Rattle.book.specs.declared.faults.BookFault.{BookFault}
 use Rattle.book.specs.declared.forms.Form.{Form}
 use Rattle.book.specs.declared.shapes.Parts.{Parts}
 use Rattle.book.specs.Pieces.{Shape, shape_of}
 use Rattle.book.specs.declared.faults.BookFault.TheVariants as fault
 use Rattle.book.specs.declared.forms.Head.{Head}
-use Rattle.book.specs.Heads.{head_of, takes}
-use Rattle.book.specs.Forms.{form_from}
+use Rattle.book.specs.Head.{head_of, takes}
+use Rattle.book.specs.Form.{form_from}
 use Rattle.book.proofs.Forming.{form_sound}
 use Rattle.book.specs.Reading.{clean, form_of, in_range, counted, shaped, some_form, line_form}
 use Rattle.book.specs.Shapes.{Kept, Shapes}

@@ -7,8 +7,8 @@ use Rattle.book.specs.declared.faults.BookFault.{BookFault}
 use Rattle.book.specs.declared.faults.BookFault.TheVariants as fault
 use Rattle.book.specs.declared.forms.Form.{Form}
 use Rattle.book.specs.Bytes.{line_end}
-use Rattle.book.specs.Entries.{Entry, taken}
-use Rattle.book.specs.Faults.{line_of}
+use Rattle.book.specs.Entry.{Entry, taken}
+use Rattle.book.specs.BookFault.{line_of}
 use Rattle.book.specs.Grammar.{form_text, text_of, entries_from, Fits, FitAfter, Stands, Faulty, Refused}
 use Rattle.book.specs.Reading.{clean, line_form, placed, at_end, cut, and_then, lines_from}
 use Rattle.book.proofs.Heading.{clean-sound, clean-bad, line_sound}

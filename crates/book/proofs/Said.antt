@@ -5,7 +5,7 @@ use Rattle.std.proofs.lemmas.Bool.{cond-true, cond-false, cases_eq, eq-eqb, ne_e
 use Rattle.book.specs.declared.forms.Form.{Form}
 use Rattle.book.specs.declared.record.BookWire.{BookWire}
 use Rattle.book.specs.declared.record.Book.{Book}
-use Rattle.book.specs.Entries.{Entry, first_said, said, wire_of, wires_of, Holds, keys_of, pipes_of, knob_of, scope_of}
+use Rattle.book.specs.Entry.{Entry, first_said, said, wire_of, wires_of, Holds, keys_of, pipes_of, knob_of, scope_of}
 use Rattle.book.specs.Limits.{rows, knobs, pistons}
 use Rattle.book.specs.declared.tables.Taken.{Taken}
 use Rattle.fittings.specs.Tables.{place_at}

@@ -12,9 +12,9 @@ use Rattle.book.specs.declared.forms.Form.TheVariants as form
 use Rattle.book.specs.declared.forms.Head.{Head}
 use Rattle.book.specs.declared.forms.Head.TheVariants as head
 use Rattle.book.specs.Bytes.{allowed, letter, space, opening, closing, line_end}
-use Rattle.book.specs.Entries.{Entry, Holds, InRange, taken}
-use Rattle.book.specs.Heads.{spelling, takes}
-use Rattle.book.specs.Faults.{line_of}
+use Rattle.book.specs.Entry.{Entry, Holds, InRange, taken}
+use Rattle.book.specs.Head.{spelling, takes}
+use Rattle.book.specs.BookFault.{line_of}
 use Rattle.book.specs.Limits.{most_bytes}
 
 -- the word of a form, and its numbers in their order

@@ -7,9 +7,9 @@ use Rattle.book.specs.declared.forms.Form.{Form}
 use Rattle.book.specs.declared.forms.Head.{Head}
 use Rattle.book.specs.declared.record.Book.{Book}
 use Rattle.book.specs.Bytes.{allowed, line_end}
-use Rattle.book.specs.Entries.{Entry, Holds, taken}
-use Rattle.book.specs.Forms.{form_from}
-use Rattle.book.specs.Heads.{head_of, takes}
+use Rattle.book.specs.Entry.{Entry, Holds, taken}
+use Rattle.book.specs.Form.{form_from}
+use Rattle.book.specs.Head.{head_of, takes}
 use Rattle.book.specs.Limits.{most_bytes}
 use Rattle.book.specs.Pieces.{Shape, shape_of}
 

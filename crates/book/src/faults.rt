@@ -1,30 +1,30 @@
-// What can be wrong with a book, each case with the line where it is.
+//! What can be wrong with a book, each case with the line where it is.
 ghost use Rattle.std.specs.Prelude.{◌≡◌, Some};
-ghost use Rattle.book.specs.Faults.{number_of, line_of};
+ghost use Rattle.book.specs.BookFault.{number_of, line_of};
 ghost use Rattle.book.specs.Sentences.{sentence_of};
 
 use std::error::Error;
 use std::fmt;
 
-// The first faulty line decides, and in it the first of these in their order.
+/// The first faulty line decides, and in it the first of these in their order.
 #[derive(Clone, Copy, Debug, PartialEq)]
 pub enum BookFault {
-    // the book has more bytes than a book may have
+    /// the book has more bytes than a book may have
     TooLong,
-    // a byte that no book holds
+    /// a byte that no book holds
     Byte { line: usize },
-    // the line is neither empty nor built as a form, or it is not ended
+    /// the line is neither empty nor built as a form, or it is not ended
     Shape { line: usize },
-    // no form has this word with this many numbers
+    /// no form has this word with this many numbers
     Form { line: usize },
-    // a number is out of its range
+    /// a number is out of its range
     Range { line: usize },
-    // the row, knob or piston was given before, or there are too many wires
+    /// the row, knob or piston was given before, or there are too many wires
     Repeat { line: usize },
 }
 
 impl BookFault {
-    // The number under which the fault is documented.
+    /// The number under which the fault is documented.
     pub fn number(self) -> u8
         ensures { result ≡ number_of self }
     {
@@ -38,7 +38,7 @@ impl BookFault {
         }
     }
 
-    // The line, counted from 1, or 0 where no line is at fault: what prints a fault prints that 0, so it is no option.
+    /// The line, counted from 1, or 0 where no line is at fault: what prints a fault prints that 0, so it is no option.
     pub fn line(self) -> usize
         ensures { result ≡ line_of self }
     {

@@ -1,6 +1,6 @@
-// How a book's record is filled, form by form.
+//! How a book's record is filled, form by form.
 ghost use Rattle.std.specs.Prelude.{◌≡◌, ◌≤◌, true, not, is_ok, List, [], ◌∷◌, ◌++◌, vec_capacity};
-ghost use Rattle.book.specs.Entries.{Entry, Holds, InRange, taken};
+ghost use Rattle.book.specs.Entry.{Entry, Holds, InRange, taken};
 ghost use Rattle.book.specs.Limits.{most_wires};
 
 use crate::forms::Form;

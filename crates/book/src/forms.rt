@@ -1,9 +1,9 @@
-// The forms of a book: what each word means, from its numbers.
+//! The forms of a book: what each word means, from its numbers.
 ghost use Rattle.std.specs.Prelude.{◌≡◌, ◌^◌, ◌-◌, ◌<◌, [], ◌∷◌, Some};
 ghost use Rattle.std.specs.Option.{option_map};
 ghost use Rattle.std.specs.Result.{result_ok};
-ghost use Rattle.book.specs.Forms.{board_of, given, knob_from, natural, piston_from, wire_from, within};
-ghost use Rattle.book.specs.Heads.{head_of};
+ghost use Rattle.book.specs.Form.{board_of, given, knob_from, natural, piston_from, wire_from, within};
+ghost use Rattle.book.specs.Head.{head_of};
 ghost use Rattle.book.specs.Limits.{most_places, rows};
 ghost use Rattle.book.specs.Reading.{formed};
 
@@ -11,7 +11,7 @@ use crate::faults::BookFault;
 use crate::limits::{KNOBS, LEAST_STEPS, MOST_PLACES, MOST_STEPS, PISTONS, ROWS};
 use fittings::Wire;
 
-// The word of a form.
+/// The word of a form.
 #[derive(Clone, Copy)]
 pub enum Head {
     Keys,
@@ -27,9 +27,9 @@ pub enum Board {
     Stop,
 }
 
-// The numbers of a knob and of a piston stand as a book writes them, and as the grammar's definitions do, which name each
-// by its place; the record makes a `Knob` and a `Scope` of them. Keys and ranks are two cases, since a book has two words
-// for them and `specs/` a meaning for each.
+/// The numbers of a knob and of a piston stand as a book writes them, and as the grammar's definitions do, which name each
+/// by its place; the record makes a `Knob` and a `Scope` of them. Keys and ranks are two cases, since a book has two words
+/// for them and `specs/` a meaning for each.
 #[derive(Clone, Copy)]
 pub enum Form {
     Keys { row: u8, reach: u8 },
@@ -39,7 +39,7 @@ pub enum Form {
     Wire { board: Board, wire: Wire },
 }
 
-// A number that no board has, or a word that no form has.
+/// A number that no board has, or a word that no form has.
 #[derive(Clone, Copy, Debug, PartialEq)]
 pub struct Unknown;
 
@@ -138,7 +138,7 @@ fn wire_form(n: [i16; 8]) -> Option<Form>
 }
 
 impl Form {
-    // The form of the head and its numbers, unless there are too many or too few, or one is out of its range.
+    /// The form of the head and its numbers, unless there are too many or too few, or one is out of its range.
     pub fn new(head: Head, numbers: &[i16], line: usize) -> Result<Form, BookFault>
         ensures { result ≡ formed line head numbers.now }
     {

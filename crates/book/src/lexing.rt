@@ -1,7 +1,7 @@
-// The tokens of one line. They borrow the book's text, and each is handed on with its line.
+//! The tokens of one line. They borrow the book's text, and each is handed on with its line.
 ghost use Rattle.std.specs.Prelude.{◌≡◌, ℕ, Bool};
 ghost use Rattle.std.specs.Fn.{FnReturnsAt};
-ghost use Rattle.book.specs.Tokens.{Cuts, Lexes, Runs};
+ghost use Rattle.book.specs.Token.{Cuts, Lexes, Runs};
 
 use crate::classes::{is_letter, is_numeric};
 use crate::passage::Passage;
@@ -10,7 +10,7 @@ use crate::passage::Passage;
 pub enum Token<'a> {
     Open,
     Word(&'a [u8]),
-    // the number's own bytes, without the space before it
+    /// the number's own bytes, without the space before it
     Number(&'a [u8]),
     Close,
 }
@@ -48,7 +48,7 @@ fn first_token<'a>(text: &'a [u8]) -> Option<(Token<'a>, &'a [u8])>
 }
 
 impl<'a> Passage<'a> {
-    // Takes the first token off, or nothing where none stands there.
+    /// Takes the first token off, or nothing where none stands there.
     pub fn next_token(&mut self) -> Option<Lexed<'a>>
         ensures answer { Lexes self.old.line self.old.text.now result self.new.text.now }
         ensures same { self.new.line ≡ self.old.line }

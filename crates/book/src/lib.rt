@@ -1,4 +1,4 @@
-// Reads organ books: the text in which a fitter describes an organ, and the record that it comes to.
+//! Reads organ books: the text in which a fitter describes an organ, and the record that it comes to.
 #![tactic(auto)]
 
 mod asking;

@@ -1,4 +1,4 @@
-// One line of a book: nothing, a form, or the first of its faults.
+//! One line of a book: nothing, a form, or the first of its faults.
 ghost use Rattle.std.specs.Prelude.{◌≡◌};
 ghost use Rattle.book.specs.Pieces.{Shape};
 ghost use Rattle.book.specs.Reading.{form_of, line_form};
@@ -21,7 +21,7 @@ fn read_form(parts: Parts) -> Result<Form, BookFault>
 }
 
 impl Passage<'_> {
-    // Reads it as one line.
+    /// Reads it as one line.
     pub fn read(self) -> Result<Option<Form>, BookFault>
         ensures { result ≡ line_form self.entry.line self.entry.text.now }
     {

@@ -1,4 +1,4 @@
-// Numbers as a book writes them: 0, or one to four digits without a leading zero, perhaps after a minus.
+//! Numbers as a book writes them: 0, or one to four digits without a leading zero, perhaps after a minus.
 ghost use Rattle.std.specs.Prelude.{◌≡◌, ◌≤◌, IfSome};
 ghost use Rattle.book.specs.Numerals.{digits_ok, numeral, size_of};
 
@@ -26,7 +26,7 @@ fn size(digits: &[u8]) -> Option<u16>
     Some(n)
 }
 
-// The number that the bytes write, with its sign.
+/// The number that the bytes write, with its sign.
 pub fn read_numeral(text: &[u8]) -> Option<i16>
     ensures { result ≡ numeral text.now }
 {

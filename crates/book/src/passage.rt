@@ -1,7 +1,7 @@
-// A part of a book's text with its place: what is still to be read, one line, or what is left of a line.
+//! A part of a book's text with its place: what is still to be read, one line, or what is left of a line.
 ghost use Rattle.std.specs.Prelude.{◌≡◌, ◌+◌, ◌≤◌, length};
 ghost use Rattle.book.specs.Limits.{most_bytes};
-ghost use Rattle.book.specs.Passages.{Comes};
+ghost use Rattle.book.specs.Passage.{Comes};
 ghost use Rattle.book.specs.Reading.{clean};
 
 use crate::classes::{end_of_line, is_allowed};
@@ -9,12 +9,12 @@ use crate::classes::{end_of_line, is_allowed};
 #[derive(Clone, Copy)]
 pub struct Passage<'a> {
     pub text: &'a [u8],
-    // the number of the line that it starts on
+    /// the number of the line that it starts on
     pub line: usize,
 }
 
 impl<'a> Passage<'a> {
-    // Whether it has no byte that no line may hold.
+    /// Whether it has no byte that no line may hold.
     pub fn is_clean(self) -> bool
         ensures { result ≡ clean self.entry.text.now }
     {

@@ -1,6 +1,6 @@
-// The reader of a whole book.
+//! The reader of a whole book.
 ghost use Rattle.std.specs.Prelude.{◌≡◌, ◌≤◌, List, IfOk, vec_len, vec_capacity};
-ghost use Rattle.book.specs.Entries.{Entry, Holds};
+ghost use Rattle.book.specs.Entry.{Entry, Holds};
 ghost use Rattle.book.specs.Limits.{most_wires};
 ghost use Rattle.book.specs.Grammar.{Accepts, Judged};
 ghost use Rattle.book.specs.Reading.{Answers, Fills, at_end, read_of, with_line};
@@ -11,7 +11,7 @@ use crate::passage::Passage;
 use crate::record::{Book, BookWire};
 use std::alloc::{AllocError, Global};
 
-// Has the memory that any book needs, so reading itself never wants more.
+/// Has the memory that any book needs, so reading itself never wants more.
 #[derive(Drop)]
 pub struct BookReader {
     wires: Vec<BookWire>,
@@ -47,7 +47,7 @@ impl Book {
 }
 
 impl BookReader {
-    // A reader with the memory for 256 wires, where the heap has it.
+    /// A reader with the memory for 256 wires, where the heap has it.
     pub fn new(heap: Global) -> Result<BookReader, AllocError>
         ensures value { IfOk result (λ q. (vec_len q.wires ≡ 0) × (most_wires ≤ vec_capacity q.wires)) }
     {
@@ -55,7 +55,7 @@ impl BookReader {
         Ok(BookReader { wires })
     }
 
-    // Reads a whole book.
+    /// Reads a whole book.
     pub fn read(self, text: &[u8]) -> Result<Book, BookFault>
         ensures answer { Answers result (read_of text.now) }
         ensures judged { Judged result text.now }

@@ -1,4 +1,4 @@
-// The record of a book: what its forms say, by row, knob and piston, and its wires in their order.
+//! The record of a book: what its forms say, by row, knob and piston, and its wires in their order.
 ghost use Rattle.std.specs.Prelude.{◌≤◌, vec_len, vec_capacity};
 ghost use Rattle.book.specs.Limits.{most_places, most_wires, Sound, Ordered};
 ghost use Rattle.fittings.specs.Tables.{AllGiven};
@@ -7,7 +7,7 @@ use crate::forms::Board;
 use crate::limits::{KNOBS, PISTONS, ROWS};
 use fittings::{Knob, Scope, Wire};
 
-// A wire with its board, and the line that it stands on.
+/// A wire with its board, and the line that it stands on.
 #[derive(Clone, Copy, Debug, PartialEq)]
 pub struct BookWire {
     pub line: usize,
@@ -15,7 +15,7 @@ pub struct BookWire {
     pub wire: Wire,
 }
 
-// There is always room for every wire that a book may have, so filling it never wants memory.
+/// There is always room for every wire that a book may have, so filling it never wants memory.
 #[derive(Drop)]
 pub struct Book {
     pub(crate) divisions: [Option<u8>; ROWS],

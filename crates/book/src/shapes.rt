@@ -1,4 +1,4 @@
-// A line as a form: one word, and the numbers after it.
+//! A line as a form: one word, and the numbers after it.
 ghost use Rattle.std.specs.Prelude.{◌≡◌};
 ghost use Rattle.book.specs.Pieces.{numbers_of, shape_of, pieces};
 ghost use Rattle.book.specs.Shapes.{Keeps, Shapes};
@@ -13,7 +13,7 @@ use arrayvec::ArrayVec;
 pub struct Parts<'a> {
     pub word: &'a [u8],
     pub line: usize,
-    // the first nine: more are too many for any form
+    /// the first nine: more are too many for any form
     pub numbers: ArrayVec<i16, MOST_KEPT>,
 }
 

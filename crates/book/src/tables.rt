@@ -1,8 +1,8 @@
-// Giving a place of a record's table what the book says of it.
+//! Giving a place of a record's table what the book says of it.
 ghost use Rattle.std.specs.Prelude.{◌≡◌, ◌<◌, length};
 ghost use Rattle.book.specs.Tables.{Gives};
 
-// The place was given before, or there is no room for one more.
+/// The place was given before, or there is no room for one more.
 #[derive(Clone, Copy, Debug, PartialEq)]
 pub struct Taken;
 

@@ -1,4 +1,4 @@
-// Books and what reading them answers: a table of texts, and some books that are too long to write out.
+//! Books and what reading them answers: a table of texts, and some books that are too long to write out.
 #![tactic(auto)]
 
 #[cfg(test)]

@@ -2,7 +2,7 @@
 use Rattle.std.proofs.Common.{◌≡◌, ℕ, ◌-◌, ◌*◌, ◌%◌, ◌^◌, ◌<◌, true, false, eqb, ◌≢◌, ap, w8}
 use lib.Bits.{bit_or, bit_and}
 use Rattle.std.proofs.lemmas.Nat.Bits.{bit_at_set_same, bit_at_set_other, bit_at_clear_same, bit_at_clear_other}
-use Rattle.bottom.specs.Layout.{bit_of}
+use Rattle.bottom.specs.PipeTable.{bit_of}
 
 -- `1 << k` of a byte, as the code's shift computes it
 abbrev pub flag : ℕ → ℕ

@@ -6,8 +6,8 @@ use Rattle.bottom.specs.declared.midi_chest.MidiChest.{MidiChest}
 use Rattle.bottom.specs.Drain.{count_of_places}
 use Rattle.bottom.specs.Draining.{UpTo}
 use Rattle.bottom.specs.Foot.{foot_meaning}
-use Rattle.bottom.specs.Layout.{shown}
-use Rattle.bottom.specs.Midi.{midi_meaning, midi_sent, midi_drained}
+use Rattle.bottom.specs.PipeTable.{shown}
+use Rattle.bottom.specs.MidiChest.{midi_meaning, midi_sent, midi_drained}
 use Rattle.bottom.specs.Receiver.{notes_after, DrainLaw}
 use Rattle.bottom.specs.Run.{Run, makes, sets, turns, strobes, drains, ReceiverLaw}
 use Rattle.bottom.proofs.Receiver.{Inside, same_flags, drained-law}

@@ -6,7 +6,7 @@ use Rattle.std.proofs.lemmas.Bool.{cases_eq}
 use Rattle.std.proofs.lemmas.Bool.Decides.{nat_tests}
 use Rattle.fittings.proofs.Filled.{filled}
 use Rattle.chest.specs.Places.{none, put}
-use Rattle.bottom.specs.Layout.{bit_of, shown}
+use Rattle.bottom.specs.PipeTable.{bit_of, shown}
 use Rattle.bottom.proofs.Bytes.{flag, mask, flag_same, flag-other, mask-same, mask-other}
 
 -- a byte in the place of another that differs in bit k at most, which then is on or off

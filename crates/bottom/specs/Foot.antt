@@ -5,7 +5,7 @@ use Rattle.chest.specs.Meaning.{Meaning}
 use Rattle.chest.specs.Positions.{positions_of}
 use Rattle.chest.specs.Reaches.{reach_of, reaches_of}
 use Rattle.bottom.specs.declared.foot.Foot.{Foot}
-use Rattle.bottom.specs.Layout.{shown}
+use Rattle.bottom.specs.PipeTable.{shown}
 
 -- its rule gives the register back, under every panel
 abbrev pub foot_meaning : Foot → Meaning

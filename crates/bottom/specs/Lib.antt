@@ -1,9 +1,9 @@
-pub mod Layout
-pub mod Faults
+pub mod PipeTable
+pub mod BufferFault
 pub mod Foot
-pub mod Magnet
+pub mod MagnetChest
 pub mod Drain
-pub mod Midi
+pub mod MidiChest
 pub mod Receiver
 pub mod Run
 pub mod Sending

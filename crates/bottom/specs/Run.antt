@@ -4,7 +4,7 @@ use Rattle.chest.specs.Places.{none, differ}
 use Rattle.chest.specs.Meaning.{set_after, turn_after, strobe_after}
 use Rattle.bottom.specs.declared.midi_chest.MidiChest.{MidiChest}
 use Rattle.bottom.specs.Foot.{new_bottom}
-use Rattle.bottom.specs.Midi.{midi_meaning, midi_sent, midi_drained}
+use Rattle.bottom.specs.MidiChest.{midi_meaning, midi_sent, midi_drained}
 use Rattle.bottom.specs.Receiver.{notes_after, DrainLaw}
 
 -- a chest after a run, and the line that its drains have written; every call goes on from any run

@@ -1,7 +1,7 @@
 -- What one sending of a MIDI chest is: all that its drain promises. Assumes nothing.
 use Rattle.std.specs.Prelude.{◌≡◌, ℕ, List, ◌++◌, length, take, drop}
 use Rattle.bottom.specs.declared.midi_chest.MidiChest.{MidiChest}
-use Rattle.bottom.specs.Midi.{midi_meaning, midi_sent, midi_drained}
+use Rattle.bottom.specs.MidiChest.{midi_meaning, midi_sent, midi_drained}
 use Rattle.bottom.specs.Receiver.{DrainLaw}
 use Rattle.bottom.specs.Run.{Run}
 

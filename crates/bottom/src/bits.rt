@@ -1,9 +1,9 @@
-// The pipes that are set and the pipes that speak.
+//! The pipes that are set and the pipes that speak.
 ghost use Rattle.std.specs.Prelude.{◌≡◌};
 ghost use Rattle.chest.specs.Places.{none, put, changed};
-ghost use Rattle.bottom.specs.Layout.{shown};
+ghost use Rattle.bottom.specs.PipeTable.{shown};
 
-use crate::table::PipeTable;
+use crate::pipe_table::PipeTable;
 use chest::place::Place;
 
 #[derive(Clone, Copy)]

@@ -1,15 +1,15 @@
-// The fault that the magnet chest gives to the host program.
+//! The fault that the magnet chest gives to the host program.
 ghost use Rattle.std.specs.Prelude.{◌≡◌};
-ghost use Rattle.bottom.specs.Faults.{number_of};
+ghost use Rattle.bottom.specs.BufferFault.{number_of};
 
 #[derive(Clone, Copy, Debug, PartialEq)]
 pub enum BufferFault {
-    // The buffer has another length than 256 bytes.
+    /// The buffer has another length than 256 bytes.
     Length { len: usize },
 }
 
 impl BufferFault {
-    // The number under which it is documented, which is the product's own.
+    /// The number under which it is documented, which is the product's own.
     pub fn number(self) -> u8
         ensures { result ≡ number_of self }
     {

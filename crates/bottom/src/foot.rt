@@ -1,8 +1,8 @@
-// What both bottom chests keep: the reaches, the knobs' positions, the pipes and the number of strobes.
+//! What both bottom chests keep: the reaches, the knobs' positions, the pipes and the number of strobes.
 ghost use Rattle.std.specs.Prelude.{◌≡◌, ℕ, ◌^◌, ◌<◌, true};
 ghost use Rattle.chest.specs.Positions.{positions_of};
 ghost use Rattle.chest.specs.Reaches.{reaches_of};
-ghost use Rattle.bottom.specs.Layout.{shown};
+ghost use Rattle.bottom.specs.PipeTable.{shown};
 
 use crate::bits::Bits;
 use chest::positions::Positions;

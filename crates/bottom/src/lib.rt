@@ -1,10 +1,10 @@
-// The chests at the foot of a stack: one that works magnets, and one that sends MIDI.
+//! The chests at the foot of a stack: one that works magnets, and one that sends MIDI.
 #![tactic(auto)]
 
 mod bits;
 pub mod fault;
 mod foot;
 pub mod laws;
-pub mod magnet;
+pub mod magnet_chest;
 pub mod midi_chest;
-mod table;
+mod pipe_table;

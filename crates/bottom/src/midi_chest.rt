@@ -1,15 +1,15 @@
-// The MIDI chest: what changes among its speaking pipes is sent as notes to a receiver.
+//! The MIDI chest: what changes among its speaking pipes is sent as notes to a receiver.
 ghost use Rattle.std.specs.Prelude.{◌≡◌, ℕ, List, [], OnErr};
 ghost use Rattle.chest.specs.Places.{none, changed};
 ghost use Rattle.chest.specs.Meaning.{Becomes, set_answer, set_after, turn_answer, turn_after, strobe_after};
 ghost use Rattle.bottom.specs.Foot.{new_bottom};
-ghost use Rattle.bottom.specs.Midi.{midi_meaning, MidiSettled, midi_sent};
+ghost use Rattle.bottom.specs.MidiChest.{midi_meaning, MidiSettled, midi_sent};
 ghost use Rattle.bottom.specs.Run.{Run};
 ghost use Rattle.bottom.specs.Sending.{MidiSends};
 ghost use Rattle.std.proofs.Common.{rules};
 
 use crate::foot::Foot;
-use crate::table::PipeTable;
+use crate::pipe_table::PipeTable;
 use chest::chest::{Chest, ROWS};
 use chest::fault::ChestFault;
 use chest::sender::Sender;
@@ -24,7 +24,7 @@ pub struct MidiChest {
 }
 
 impl MidiChest {
-    // An empty chest with these reaches, of which one above 128 counts as 128; nothing is sent yet.
+    /// An empty chest with these reaches, of which one above 128 counts as 128; nothing is sent yet.
     pub fn new(reaches: [u8; ROWS]) -> MidiChest
         ensures value { midi_meaning result ≡ new_bottom reaches }
         ensures sent { midi_sent result ≡ none }

@@ -1,10 +1,10 @@
-// Both bottom chests at the edges of their rows, knobs and buffers.
+//! Both bottom chests at the edges of their rows, knobs and buffers.
 #![tactic(auto)]
 
 #[cfg(test)]
 mod tests {
     use bottom::fault::BufferFault;
-    use bottom::magnet::MagnetChest;
+    use bottom::magnet_chest::MagnetChest;
     use bottom::midi_chest::MidiChest;
     use chest::chest::Chest;
     use chest::fault::ChestFault;

@@ -10,12 +10,12 @@ use Rattle.board.specs.Fitting.{in_range, fit_answer, lead_of}
 use Rattle.console.specs.declared.call.Call.{Call}
 use Rattle.console.specs.declared.call.Call.TheVariants.{Press, Lift, Sustain, Turn, Capture, Recall}
 use Rattle.console.specs.declared.fault.PlayFault.TheVariants.{Division, Key}
-use Rattle.console.specs.Faults.{number_of}
+use Rattle.console.specs.PlayFault.{number_of}
 use Rattle.console.specs.Keys.{sounding}
 use Rattle.console.specs.Model.{Setup, Model, first, check, after}
 use Rattle.console.specs.Record.{pipes_of}
 use Rattle.organ.specs.declared.action.Action.TheVariants.{Perform}
-use Rattle.organ.specs.Actions.{action_of}
+use Rattle.organ.specs.Action.{action_of}
 use Rattle.organ.specs.Assembly.{hang_all, stop_layout}
 use Rattle.organ.specs.Opening.{new_ranks}
 use Rattle.cases.specs.Organ.{keys, ranks, shifted_by, wires, hung, stack, setup}

@@ -1,4 +1,4 @@
-pub mod Faults
+pub mod ChestFault
 pub mod Places
 pub mod Reaches
 pub mod Positions

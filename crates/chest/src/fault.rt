@@ -1,21 +1,21 @@
-// The faults that a chest gives to whoever wires it.
+//! The faults that a chest gives to whoever wires it.
 ghost use Rattle.std.specs.Prelude.{◌≡◌};
-ghost use Rattle.chest.specs.Faults.{number_of};
+ghost use Rattle.chest.specs.ChestFault.{number_of};
 
 #[derive(Clone, Copy, Debug, PartialEq)]
 pub enum ChestFault {
-    // The row is 16 or more.
+    /// The row is 16 or more.
     Row { row: usize },
-    // The place is not below the reach of its row.
+    /// The place is not below the reach of its row.
     Place { row: usize, place: usize },
-    // The knob is 64 or more.
+    /// The knob is 64 or more.
     Knob { knob: usize },
-    // The position is 16 or more.
+    /// The position is 16 or more.
     Position { knob: usize, position: usize },
 }
 
 impl ChestFault {
-    // The number under which it is documented, which is the product's own.
+    /// The number under which it is documented, which is the product's own.
     pub fn number(self) -> u8
         ensures { result ≡ number_of self }
     {

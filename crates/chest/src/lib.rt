@@ -1,4 +1,4 @@
-// What a chest is: its faults, its meaning and the calls that every chest answers.
+//! What a chest is: its faults, its meaning and the calls that every chest answers.
 #![tactic(auto)]
 
 pub mod chest;

@@ -1,9 +1,9 @@
-// A place by its row and its number in it.
+//! A place by its row and its number in it.
 ghost use Rattle.std.specs.Prelude.{◌≡◌, ◌+◌, ◌*◌, ◌<◌};
 
 use crate::chest::PLACES;
 
-// A place that a chest can have: one of 128 in one of 16 rows.
+/// A place that a chest can have: one of 128 in one of 16 rows.
 #[derive(Clone, Copy)]
 pub struct Place {
     pub row: usize,
@@ -13,7 +13,7 @@ pub struct Place {
 }
 
 impl Place {
-    // Where it stands in a table of all places, row after row.
+    /// Where it stands in a table of all places, row after row.
     pub fn index(self) -> usize
         ensures value { result ≡ 128 * self.row + self.place }
         ensures bound { result < 2048 }

@@ -1,5 +1,5 @@
-// The positions of all knobs. Any table may be one: what keeps them below 16 is that a knob is turned by a `Setting`. They
-// are no table of one type with `Reaches`, which refuse by other faults, have a bound and answer for places.
+//! The positions of all knobs. Any table may be one: what keeps them below 16 is that a knob is turned by a `Setting`. They
+//! are no table of one type with `Reaches`, which refuse by other faults, have a bound and answer for places.
 ghost use Rattle.std.specs.Prelude.{◌≡◌, ◌<◌};
 
 use crate::chest::KNOBS;
@@ -21,7 +21,7 @@ impl Positions {
         Positions { table }
     }
 
-    // The position of a knob, 0 where there is no such knob.
+    /// The position of a knob, 0 where there is no such knob.
     pub fn of(&self, knob: usize) -> usize
         ensures { result ≡ positions_of self.now knob }
     {
@@ -30,7 +30,7 @@ impl Positions {
             .map_or(0, |position| usize::from(*position))
     }
 
-    // The position of a knob that there is.
+    /// The position of a knob that there is.
     pub fn position(&self, knob: usize) -> Result<usize, ChestFault>
         ensures { result ≡ position_in (positions_of self.now) knob }
     {
@@ -38,8 +38,8 @@ impl Positions {
         Ok(usize::from(*position))
     }
 
-    // Turns a knob. A setting has one of 16 positions, so narrowing loses nothing, and `try_from` would add a case that
-    // cannot be.
+    /// Turns a knob. A setting has one of 16 positions, so narrowing loses nothing, and `try_from` would add a case that
+    /// cannot be.
     pub fn turn(&mut self, to: Setting)
         ensures { positions_of self.new ≡ knob_to (positions_of self.old) to.knob to.position }
     {

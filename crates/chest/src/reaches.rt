@@ -1,4 +1,4 @@
-// How many places each row has.
+//! How many places each row has.
 ghost use Rattle.std.specs.Prelude.{◌≡◌, ℕ, ◌<◌, ◌≤◌, min, Ok, Err, MatchResult, slice_index};
 
 use crate::chest::{PLACES, ROWS};
@@ -24,7 +24,7 @@ fn capped(table: [u8; ROWS]) -> [u8; ROWS]
 impl Reaches {
     ghost use Rattle.chest.specs.Reaches.{reach_of, reaches_of, reach_in, place_in};
 
-    // A reach above 128 counts as 128.
+    /// A reach above 128 counts as 128.
     pub fn new(table: [u8; ROWS]) -> Reaches
         ensures { reaches_of result ≡ reach_of table }
     {
@@ -33,7 +33,7 @@ impl Reaches {
         }
     }
 
-    // The reach of a row, 0 where there is no such row.
+    /// The reach of a row, 0 where there is no such row.
     pub fn of(&self, row: usize) -> usize
         ensures value { result ≡ reaches_of self.now row }
         ensures bound { result ≤ 128 }
@@ -41,7 +41,7 @@ impl Reaches {
         self.table.get(row).map_or(0, |reach| usize::from(*reach))
     }
 
-    // The reach of a row that there is.
+    /// The reach of a row that there is.
     pub fn reach(&self, row: usize) -> Result<usize, ChestFault>
         ensures { result ≡ reach_in (reaches_of self.now) row }
     {
@@ -49,7 +49,7 @@ impl Reaches {
         Ok(usize::from(*reach))
     }
 
-    // A place that there is.
+    /// A place that there is.
     pub fn place(&self, row: usize, place: usize) -> Result<Place, ChestFault>
         ensures { MatchResult result (λ at. (place_in (reaches_of self.now) row place ≡ Ok tt) × (at.row ≡ row) × (at.place ≡ place) × (place < reaches_of self.now row)) (λ fault. place_in (reaches_of self.now) row place ≡ Err fault) }
     {

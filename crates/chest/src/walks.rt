@@ -1,4 +1,4 @@
-// Walks over the places and the knobs of any chest.
+//! Walks over the places and the knobs of any chest.
 ghost use Rattle.std.specs.Prelude.{◌≡◌, ℕ, ◌<◌, ◌≤◌, slice_index};
 ghost use Rattle.chest.specs.Places.{Places, none};
 ghost use Rattle.chest.specs.Meaning.{Becomes, with_register};
@@ -10,7 +10,7 @@ use crate::place::Place;
 use crate::reaches::Reaches;
 use std::array;
 
-// Which places are to be set. A trait, since of a closure a walk would have to ask that it can be called.
+/// Which places are to be set. A trait, since of a closure a walk would have to ask that it can be called.
 pub trait Rule {
     ghost set: { Self → Places };
 
@@ -29,7 +29,7 @@ impl Rule for Nowhere {
     }
 }
 
-// Puts each place of a row on or off, as a rule says of it.
+/// Puts each place of a row on or off, as a rule says of it.
 pub fn show_row<C: Chest, R: Rule>(chest: &mut C, row: usize, rule: &R)
     ensures { Becomes C.meaning C.settled chest.old chest.new (row_shown (C.meaning chest.old) (R.set rule.now) row ((C.meaning chest.old).reach row)) }
 {
@@ -38,7 +38,7 @@ pub fn show_row<C: Chest, R: Rule>(chest: &mut C, row: usize, rule: &R)
     }
 }
 
-// Puts off every place.
+/// Puts off every place.
 pub fn clear<C: Chest>(chest: &mut C)
     ensures { Becomes C.meaning C.settled chest.old chest.new (with_register (C.meaning chest.old) none) }
 {
@@ -64,14 +64,14 @@ fn position_at<C: Chest>(chest: &C, knob: usize) -> u8
     chest.position(knob).unwrap_or(0) as u8
 }
 
-// The reaches of all rows.
+/// The reaches of all rows.
 pub fn reaches<C: Chest>(chest: &C) -> Reaches
     ensures { reaches_of result ≡ (C.meaning chest.now).reach }
 {
     Reaches::new(array::from_fn(|row| reach_at(chest, row)))
 }
 
-// The positions of all knobs, as the table that a piston keeps.
+/// The positions of all knobs, as the table that a piston keeps.
 pub fn positions<C: Chest>(chest: &C) -> [u8; KNOBS]
     ensures value { (k : ℕ) → k < 64 → slice_index result k ≡ (C.meaning chest.now).panel k }
     ensures bound { (k : ℕ) → slice_index result k < 16 }

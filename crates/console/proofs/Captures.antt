@@ -7,9 +7,9 @@ use Rattle.chest.specs.Places.{none}
 use Rattle.chest.specs.Meaning.{Meaning, Panel, Bounded, next_strobe}
 use Rattle.console.specs.declared.call.Call.TheVariants.{Capture}
 use Rattle.console.specs.declared.console.Console.{Console}
-use Rattle.console.specs.declared.pistons.PistonTable.{PistonTable}
+use Rattle.console.specs.declared.piston_table.PistonTable.{PistonTable}
 use Rattle.console.specs.KnobTable.{steps_of}
-use Rattle.console.specs.Pistons.{scope_of, frame_of}
+use Rattle.console.specs.PistonTable.{scope_of, frame_of}
 use Rattle.console.specs.Model.{Setup, Model, Memory, check, done, after, takes, memory}
 use Rattle.console.specs.Record.{EntryLaw, answer_of}
 use Rattle.console.specs.Tracks.{Sane, Tracks, setup_of, stored_of}

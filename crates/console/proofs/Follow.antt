@@ -7,7 +7,7 @@ use Rattle.chest.specs.Walks.{row_shown}
 use Rattle.console.specs.declared.call.Call.{Call}
 use Rattle.console.specs.declared.console.Console.{Console}
 use Rattle.console.specs.declared.fault.PlayFault.{PlayFault}
-use Rattle.console.specs.declared.keys.KeyTable.{KeyTable}
+use Rattle.console.specs.declared.key_table.KeyTable.{KeyTable}
 use Rattle.console.specs.Keys.{Keys, sounding, pressed, lifted, sustain_begun, sustain_ended, cleared}
 use Rattle.console.specs.KeyTable.{keys_of}
 use Rattle.console.specs.Model.{Setup, Model, with_keys, with_panel, key_check, check, done, after}

@@ -1,7 +1,7 @@
 -- What a knob table says of its knobs. Assumes nothing.
 use Rattle.std.proofs.Common.{◌≡◌, ℕ, ◌<◌, Some, arith}
 use Rattle.std.proofs.lemmas.Bool.Decides.{nat_tests}
-use Rattle.console.specs.declared.knobs.KnobTable.{KnobTable}
+use Rattle.console.specs.declared.knob_table.KnobTable.{KnobTable}
 use Rattle.console.specs.KnobTable.{home_of}
 use Rattle.console.specs.Walks.{homes_of}
 

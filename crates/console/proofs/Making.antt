@@ -4,13 +4,13 @@ use Rattle.std.specs.Option.{option_map}
 use Rattle.std.proofs.lemmas.Bool.Decides.{nat_tests}
 use Rattle.chest.specs.Places.{none}
 use Rattle.chest.specs.Meaning.{Meaning, Panel, Bounded, Becomes, strobe_after, with_register}
-use Rattle.console.specs.declared.keys.KeyTable.{KeyTable}
-use Rattle.console.specs.declared.knobs.KnobTable.{KnobTable}
-use Rattle.console.specs.declared.pistons.PistonTable.{PistonTable}
+use Rattle.console.specs.declared.key_table.KeyTable.{KeyTable}
+use Rattle.console.specs.declared.knob_table.KnobTable.{KnobTable}
+use Rattle.console.specs.declared.piston_table.PistonTable.{PistonTable}
 use Rattle.console.specs.Keys.{no_keys}
 use Rattle.console.specs.KeyTable.{keys_of}
 use Rattle.console.specs.KnobTable.{home_of}
-use Rattle.console.specs.Pistons.{scope_of, frame_of}
+use Rattle.console.specs.PistonTable.{scope_of, frame_of}
 use Rattle.console.specs.Model.{Setup, Memory, first, all_home, memory}
 use Rattle.console.specs.Record.{Making}
 use Rattle.console.specs.Tracks.{Agrees, Sane, Makes, setup_of, stored_of}

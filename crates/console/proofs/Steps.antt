@@ -7,7 +7,7 @@ use Rattle.chest.specs.Meaning.{Meaning, Panel, Becomes, next_strobe, strobe_aft
 use Rattle.console.specs.declared.call.Call.{Call}
 use Rattle.console.specs.declared.console.Console.{Console}
 use Rattle.console.specs.declared.fault.PlayFault.{PlayFault}
-use Rattle.console.specs.declared.keys.KeyTable.{KeyTable}
+use Rattle.console.specs.declared.key_table.KeyTable.{KeyTable}
 use Rattle.console.specs.Keys.{sounding}
 use Rattle.console.specs.KeyTable.{keys_of}
 use Rattle.console.specs.Model.{Setup, Model, check, done, after}

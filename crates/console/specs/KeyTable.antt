@@ -1,7 +1,7 @@
 -- A key table as the keys that it keeps. Assumes nothing.
 use Rattle.std.specs.Prelude.{ℕ, Bool, false, is_some, List, [], Some, None, Option, slice_index_or}
-use Rattle.console.specs.declared.keys.Division.{Division}
-use Rattle.console.specs.declared.keys.KeyTable.{KeyTable}
+use Rattle.console.specs.declared.key_table.Division.{Division}
+use Rattle.console.specs.declared.key_table.KeyTable.{KeyTable}
 use Rattle.console.specs.Keys.{Keys}
 
 -- a division past the last has no keys

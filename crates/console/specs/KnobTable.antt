@@ -3,7 +3,7 @@ use Rattle.std.specs.Prelude.{ℕ, cond, None, Option, nat_lt}
 use Rattle.std.specs.Option.{option_map, unwrap_or}
 use Rattle.fittings.specs.declared.Knob.{Knob}
 use Rattle.fittings.specs.Tables.{place_at}
-use Rattle.console.specs.declared.knobs.KnobTable.{KnobTable}
+use Rattle.console.specs.declared.knob_table.KnobTable.{KnobTable}
 
 abbrev pub knob_at : KnobTable → ℕ → Option Knob
 knob_at t k = cond (nat_lt k 64) (place_at t.knobs k) None

@@ -1,9 +1,9 @@
-pub mod Faults
+pub mod PlayFault
 pub mod Keys
 pub mod Knobs
 pub mod KnobTable
 pub mod KeyTable
-pub mod Pistons
+pub mod PistonTable
 pub mod Model
 pub mod Record
 pub mod Tracks

@@ -9,7 +9,7 @@ use Rattle.console.specs.declared.fault.PlayFault.{PlayFault}
 use Rattle.console.specs.declared.fault.PlayFault.TheVariants.{Division, Key, KeyDown, KeyUp, Knob, Position, Piston, NeverCaptured}
 use Rattle.fittings.specs.declared.Scope.{Scope}
 use Rattle.console.specs.Keys.{Keys, no_keys, pressed, lifted, sustain_begun, sustain_ended, cleared}
-use Rattle.console.specs.Pistons.{within}
+use Rattle.console.specs.PistonTable.{within}
 
 -- reach: the keys of each division; steps: the steps of each knob, none where it is undefined; home: where a knob goes
 -- at the making and at a cancel; scope: the lowest and highest knob of each piston, none where it is undefined

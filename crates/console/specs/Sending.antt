@@ -3,8 +3,8 @@ use Rattle.std.specs.Prelude.{◌≡◌, ℕ, List}
 use Rattle.chest.specs.Meaning.{Meaning}
 use Rattle.console.specs.declared.call.Call.{Call}
 use Rattle.console.specs.declared.console.Console.{Console}
-use Rattle.console.specs.declared.knobs.KnobTable.{KnobTable}
-use Rattle.console.specs.declared.pistons.PistonTable.{PistonTable}
+use Rattle.console.specs.declared.knob_table.KnobTable.{KnobTable}
+use Rattle.console.specs.declared.piston_table.PistonTable.{PistonTable}
 use Rattle.console.specs.Model.{Setup, Model}
 use Rattle.console.specs.Record.{Answer}
 use Rattle.console.specs.Tracks.{Tracks, Follows, Makes}

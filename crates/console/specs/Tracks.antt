@@ -4,12 +4,12 @@ use Rattle.std.specs.Option.{option_map}
 use Rattle.chest.specs.Meaning.{Meaning}
 use Rattle.console.specs.declared.call.Call.{Call}
 use Rattle.console.specs.declared.console.Console.{Console}
-use Rattle.console.specs.declared.knobs.KnobTable.{KnobTable}
-use Rattle.console.specs.declared.pistons.PistonTable.{PistonTable}
+use Rattle.console.specs.declared.knob_table.KnobTable.{KnobTable}
+use Rattle.console.specs.declared.piston_table.PistonTable.{PistonTable}
 use Rattle.console.specs.Keys.{sounding}
 use Rattle.console.specs.KeyTable.{keys_of}
 use Rattle.console.specs.KnobTable.{steps_of, home_of}
-use Rattle.console.specs.Pistons.{scope_of, frame_of}
+use Rattle.console.specs.PistonTable.{scope_of, frame_of}
 use Rattle.console.specs.Model.{Setup, Model, Memory, first, memory, after}
 use Rattle.console.specs.Record.{Answer, EntryLaw, Making, pipes_of}
 

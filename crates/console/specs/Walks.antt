@@ -3,9 +3,9 @@ use Rattle.std.specs.Prelude.{◌≡◌, ℕ, ◌<◌, cond, ◌&&◌, is_some, 
 use Rattle.std.specs.Option.{option_map, unwrap_or}
 use Rattle.fittings.specs.declared.Scope.{Scope}
 use Rattle.chest.specs.Meaning.{Meaning, with_panel}
-use Rattle.console.specs.declared.knobs.KnobTable.{KnobTable}
+use Rattle.console.specs.declared.knob_table.KnobTable.{KnobTable}
 use Rattle.console.specs.KnobTable.{knob_at, steps_of}
-use Rattle.console.specs.Pistons.{within}
+use Rattle.console.specs.PistonTable.{within}
 
 -- those of the first n knobs that have a position to go to turned
 abbrev pub knobs_turned : Meaning → (ℕ → Option ℕ) → ℕ → Meaning

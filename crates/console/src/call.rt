@@ -1,4 +1,4 @@
-// What an organist can do at the console.
+//! What an organist can do at the console.
 
 #[derive(Clone, Copy, Debug, PartialEq)]
 pub enum Call {

@@ -1,4 +1,4 @@
-// The console over any chest: its making and its eight calls.
+//! The console over any chest: its making and its eight calls.
 ghost use Rattle.std.specs.Prelude.{◌≡◌, ◌<◌, ◌≤◌, true, length, Ok, Err, IfOk, IfErr, OnErr};
 ghost use Rattle.console.specs.Model.{key_check};
 ghost use Rattle.console.specs.Sending.{Sends, StillTracks, Linked};
@@ -6,9 +6,9 @@ ghost use Rattle.console.specs.Tracks.{Follows, Makes};
 
 use crate::call::Call;
 use crate::fault::PlayFault;
-use crate::keys::KeyTable;
-use crate::knobs::KnobTable;
-use crate::pistons::PistonTable;
+use crate::key_table::KeyTable;
+use crate::knob_table::KnobTable;
+use crate::piston_table::PistonTable;
 use crate::walks::{home_knobs, recall_knobs, reset_knobs};
 use chest::chest::{Chest, ROWS};
 use chest::place::Place;
@@ -24,7 +24,7 @@ pub struct Console<C: Chest> {
 }
 
 impl<C: Chest> Console<C> {
-    // No key is down, every sustain is off, the knobs are at home and nothing is captured, whatever the chest held before.
+    /// No key is down, every sustain is off, the knobs are at home and nothing is captured, whatever the chest held before.
     pub fn new(mut chest: C, knobs: KnobTable, pistons: PistonTable) -> Console<C>
         ensures { Makes C.Chest.meaning C.Chest.settled chest knobs pistons result }
     {
@@ -40,7 +40,7 @@ impl<C: Chest> Console<C> {
         }
     }
 
-    // Does any of the eight calls.
+    /// Does any of the eight calls.
     pub fn perform(&mut self, call: Call) -> Result<u32, PlayFault>
         ensures follows { Follows C.Chest.meaning C.Chest.settled self.old call result self.new }
         ensures same { OnErr result (self.new ≡ self.old) }
@@ -57,7 +57,7 @@ impl<C: Chest> Console<C> {
         }
     }
 
-    // The chest that the console stands on, to be looked at.
+    /// The chest that the console stands on, to be looked at.
     pub fn chest(&self) -> &C
         ensures { result.now ≡ self.now.chest }
     {
@@ -82,7 +82,7 @@ impl<C: Chest> Console<C> {
         })
     }
 
-    // Presses a key.
+    /// Presses a key.
     pub fn press(&mut self, division: usize, key: usize) -> Result<u32, PlayFault>
         ensures follows { Follows C.Chest.meaning C.Chest.settled self.old (Call.Press division key) result self.new }
         ensures same { OnErr result (self.new ≡ self.old) }
@@ -96,7 +96,7 @@ impl<C: Chest> Console<C> {
         Ok(self.chest.strobe())
     }
 
-    // Lifts a key; it sounds on if it is sustained.
+    /// Lifts a key; it sounds on if it is sustained.
     pub fn lift(&mut self, division: usize, key: usize) -> Result<u32, PlayFault>
         ensures follows { Follows C.Chest.meaning C.Chest.settled self.old (Call.Lift division key) result self.new }
         ensures same { OnErr result (self.new ≡ self.old) }
@@ -111,7 +111,7 @@ impl<C: Chest> Console<C> {
         Ok(self.chest.strobe())
     }
 
-    // Switches a division's sustain on or off.
+    /// Switches a division's sustain on or off.
     pub fn sustain(&mut self, division: usize, on: bool) -> Result<u32, PlayFault>
         ensures follows { Follows C.Chest.meaning C.Chest.settled self.old (Call.Sustain division on) result self.new }
         ensures same { OnErr result (self.new ≡ self.old) }
@@ -124,8 +124,8 @@ impl<C: Chest> Console<C> {
         Ok(self.chest.strobe())
     }
 
-    // Ends a division's sustain and lifts all its keys. Its last two lines are those of `sustain`: a function for them
-    // would need a clause for each part of the console.
+    /// Ends a division's sustain and lifts all its keys. Its last two lines are those of `sustain`: a function for them
+    /// would need a clause for each part of the console.
     pub fn clear(&mut self, division: usize) -> Result<u32, PlayFault>
         ensures follows { Follows C.Chest.meaning C.Chest.settled self.old (Call.Clear division) result self.new }
         ensures same { OnErr result (self.new ≡ self.old) }
@@ -138,7 +138,7 @@ impl<C: Chest> Console<C> {
         Ok(self.chest.strobe())
     }
 
-    // Turns a knob to a position.
+    /// Turns a knob to a position.
     pub fn turn(&mut self, knob: usize, position: usize) -> Result<u32, PlayFault>
         ensures follows { Follows C.Chest.meaning C.Chest.settled self.old (Call.Turn knob position) result self.new }
         ensures same { OnErr result (self.new ≡ self.old) }
@@ -151,7 +151,7 @@ impl<C: Chest> Console<C> {
         Ok(self.chest.strobe())
     }
 
-    // Stores the positions of a piston's knobs.
+    /// Stores the positions of a piston's knobs.
     pub fn capture(&mut self, piston: usize) -> Result<u32, PlayFault>
         ensures follows { Follows C.Chest.meaning C.Chest.settled self.old (Call.Capture piston) result self.new }
         ensures same { OnErr result (self.new ≡ self.old) }
@@ -164,7 +164,7 @@ impl<C: Chest> Console<C> {
         Ok(0)
     }
 
-    // Turns a piston's knobs to what it stores.
+    /// Turns a piston's knobs to what it stores.
     pub fn recall(&mut self, piston: usize) -> Result<u32, PlayFault>
         ensures follows { Follows C.Chest.meaning C.Chest.settled self.old (Call.Recall piston) result self.new }
         ensures same { OnErr result (self.new ≡ self.old) }
@@ -181,7 +181,7 @@ impl<C: Chest> Console<C> {
         Ok(self.chest.strobe())
     }
 
-    // Turns every defined knob home.
+    /// Turns every defined knob home.
     pub fn cancel(&mut self) -> u32
         ensures { Follows C.Chest.meaning C.Chest.settled self.old Call.Cancel (Ok result) self.new }
     {
@@ -191,8 +191,8 @@ impl<C: Chest> Console<C> {
 }
 
 impl<C: Sender> Console<C> {
-    // Has the chest write to a buffer what its receiver is to be told, and answers how many bytes it wrote. It is no call
-    // of the record: whatever model the console stood as, it stands as that.
+    /// Has the chest write to a buffer what its receiver is to be told, and answers how many bytes it wrote. It is no call
+    /// of the record: whatever model the console stood as, it stands as that.
     pub fn send(&mut self, buffer: &mut [u8]) -> usize
         ensures law { Sends C.Sender.sends self.old buffer.old result buffer.new self.new }
         ensures same { C.Chest.meaning self.new.chest ≡ C.Chest.meaning self.old.chest }

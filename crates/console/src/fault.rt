@@ -1,29 +1,29 @@
-// The faults that a console gives to the player.
+//! The faults that a console gives to the player.
 ghost use Rattle.std.specs.Prelude.{◌≡◌};
-ghost use Rattle.console.specs.Faults.{number_of};
+ghost use Rattle.console.specs.PlayFault.{number_of};
 
 #[derive(Clone, Copy, Debug, PartialEq)]
 pub enum PlayFault {
-    // The division is 16 or more.
+    /// The division is 16 or more.
     Division { division: usize },
-    // The key is not below the division's reach.
+    /// The key is not below the division's reach.
     Key { division: usize, key: usize },
-    // The key to be pressed is down.
+    /// The key to be pressed is down.
     KeyDown { division: usize, key: usize },
-    // The key to be lifted is not down.
+    /// The key to be lifted is not down.
     KeyUp { division: usize, key: usize },
-    // The knob is 64 or more, or undefined.
+    /// The knob is 64 or more, or undefined.
     Knob { knob: usize },
-    // The position is not below the knob's steps.
+    /// The position is not below the knob's steps.
     Position { knob: usize, position: usize },
-    // The piston is 40 or more, or undefined.
+    /// The piston is 40 or more, or undefined.
     Piston { piston: usize },
-    // The piston to be recalled was never captured.
+    /// The piston to be recalled was never captured.
     NeverCaptured { piston: usize },
 }
 
 impl PlayFault {
-    // The number under which it is documented, which is the product's own.
+    /// The number under which it is documented, which is the product's own.
     pub fn number(self) -> u8
         ensures { result ≡ number_of self }
     {

@@ -1,4 +1,4 @@
-// Whole runs of calls, and the law of their record.
+//! Whole runs of calls, and the law of their record.
 ghost use Rattle.std.specs.Prelude.{◌≡◌, ◌+◌, ◌≤◌, true, List, ◌++◌, length, is_ok, IfOk, vec_len, vec_capacity, OnErr};
 ghost use Rattle.console.specs.Record.{Answer, EveryEntry};
 ghost use Rattle.console.specs.Plays.{Plays, HostsLaw, Touches};
@@ -6,13 +6,13 @@ ghost use Rattle.console.specs.Plays.{Plays, HostsLaw, Touches};
 use crate::call::Call;
 use crate::console::Console;
 use crate::fault::PlayFault;
-use crate::knobs::KnobTable;
-use crate::pistons::PistonTable;
+use crate::knob_table::KnobTable;
+use crate::piston_table::PistonTable;
 use chest::chest::Chest;
 use std::alloc::AllocError;
 
-// Makes a console, does each call and adds each answer to the list. Where the list has room nothing is allocated;
-// where room for all answers cannot be had, nothing is done.
+/// Makes a console, does each call and adds each answer to the list. Where the list has room nothing is allocated;
+/// where room for all answers cannot be had, nothing is done.
 pub fn play<C: Chest + Drop>(
     chest: C,
     knobs: KnobTable,
@@ -33,7 +33,7 @@ pub fn play<C: Chest + Drop>(
     Ok(console)
 }
 
-// The law for a host that makes its calls one by one, and what it says at any one entry.
+/// The law for a host that makes its calls one by one, and what it says at any one entry.
 pub fn record_law<C: Chest>()
     ensures hosts { HostsLaw C.Chest.meaning C.Chest.settled }
     ensures entries { EveryEntry }

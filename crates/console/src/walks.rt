@@ -1,10 +1,10 @@
-// Walks over the knobs of a chest.
+//! Walks over the knobs of a chest.
 ghost use Rattle.std.specs.Prelude.{◌≡◌, ℕ, ◌<◌, ◌&&◌, Some, None, Option};
 ghost use Rattle.chest.specs.Meaning.{Becomes};
 ghost use Rattle.console.specs.KnobTable.{home_of};
 ghost use Rattle.console.specs.Walks.{Turns, knobs_turned, homes_of, frame_in};
 
-use crate::knobs::KnobTable;
+use crate::knob_table::KnobTable;
 use chest::chest::{Chest, KNOBS};
 use fittings::Scope;
 

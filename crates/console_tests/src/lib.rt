@@ -1,18 +1,18 @@
-// Runs of calls on a console, each with the answer that it must give.
+//! Runs of calls on a console, each with the answer that it must give.
 #![tactic(auto)]
 
 use board::board::RelayBoard;
 use board::fault::BoardFault;
 use board::wire::Wire;
-use bottom::magnet::MagnetChest;
+use bottom::magnet_chest::MagnetChest;
 use bottom::midi_chest::MidiChest;
 use chest::chest::Chest;
 use chest::sender::Sender;
 use console::call::Call;
 use console::console::Console;
 use console::fault::PlayFault;
-use console::knobs::KnobTable;
-use console::pistons::PistonTable;
+use console::knob_table::KnobTable;
+use console::piston_table::PistonTable;
 use fittings::{Knob, Scope};
 
 pub mod foot;

@@ -1,4 +1,4 @@
-// Reads organ.book, and says what the organ has, or what is wrong with the book and where.
+//! Reads organ.book, and says what the organ has, or what is wrong with the book and where.
 #![tactic(auto)]
 
 mod report;

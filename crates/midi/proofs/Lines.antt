@@ -8,7 +8,7 @@ use Rattle.midi.specs.declared.message.Message.{Message}
 use Rattle.midi.specs.declared.state.State.{State}
 use Rattle.midi.specs.declared.state.State.TheVariants.{Idle, OneByte, TwoBytes, Half}
 use Rattle.midi.specs.Reading.{reading, first_status, first_real_time, without_real_time, leading_data, pairs, cut, format}
-use Rattle.midi.specs.Steps.{short_message, long_message, running, data_step, step, handed, state_after, Feeds, CaughtUp}
+use Rattle.midi.specs.State.{short_message, long_message, running, data_step, step, handed, state_after, Feeds, CaughtUp}
 
 -- what data bytes next on the line add to the message begun in a state
 abbrev begun : State → List ℕ → List Message

@@ -10,7 +10,7 @@ use Rattle.midi.specs.declared.state.Long.TheVariants as long
 use Rattle.midi.specs.declared.state.State.{State}
 use Rattle.midi.specs.declared.state.State.TheVariants.{Idle, TwoBytes, Half}
 use Rattle.midi.specs.Reading.{reading, ReadsAs}
-use Rattle.midi.specs.Steps.{long_message, running, data_step, step, handed, state_after}
+use Rattle.midi.specs.State.{long_message, running, data_step, step, handed, state_after}
 use Rattle.midi.proofs.Lines.{reading-append}
 
 step-status : (s : State) (b : ℕ) → 0x80 ≤ b → b < 0xf8 → step s b ≡ (None, running b)

@@ -12,7 +12,7 @@ use Rattle.midi.specs.declared.state.Long.TheVariants as long
 use Rattle.midi.specs.declared.state.State.{State}
 use Rattle.midi.specs.declared.state.State.TheVariants.{Idle, OneByte, TwoBytes, Half}
 use Rattle.midi.specs.Reading.{first_status, first_real_time, InRange}
-use Rattle.midi.specs.Steps.{short_message, long_message, data_step, step, handed, sound, HasRead}
+use Rattle.midi.specs.State.{short_message, long_message, data_step, step, handed, sound, HasRead}
 
 -- the status byte of a kind on a channel
 abbrev short_status : Short → ℕ → ℕ

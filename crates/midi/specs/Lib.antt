@@ -1,3 +1,3 @@
 -- What contracts of the crate cite.
 pub mod Reading
-pub mod Steps
+pub mod State

@@ -1,6 +1,6 @@
-// A channel message: what a line says, with its channel and its values.
+//! A channel message: what a line says, with its channel and its values.
 
-// On a line channels are 0 to 15 and values 0 to 127; a bend's value is 0 to 16,383, at rest 8,192.
+/// On a line channels are 0 to 15 and values 0 to 127; a bend's value is 0 to 16,383, at rest 8,192.
 #[derive(Clone, Copy, Debug, PartialEq)]
 pub enum Message {
     NoteOff {

@@ -1,9 +1,9 @@
-// The reader of a line.
+//! The reader of a line.
 ghost use Rattle.std.specs.Prelude.{◌≡◌, ℕ, ◌+◌, ◌<◌, ◌≤◌, true, List, [], ◌∷◌, ◌++◌, length, IfSome, is_ok, if◌then◌else◌, vec_len, vec_capacity, MatchResult};
 ghost use Rattle.std.specs.Option.{option_to_list};
 ghost use Rattle.std.specs.List.{AllByRecursion};
 ghost use Rattle.midi.specs.Reading.{reading, InRange};
-ghost use Rattle.midi.specs.Steps.{step, handed, state_after, sound, HasRead, Feeds, CaughtUp};
+ghost use Rattle.midi.specs.State.{step, handed, state_after, sound, HasRead, Feeds, CaughtUp};
 
 use crate::message::Message;
 use crate::state::State;
@@ -17,14 +17,14 @@ pub struct Reader {
 }
 
 impl Reader {
-    // A reader that has read nothing.
+    /// A reader that has read nothing.
     pub fn new() -> Reader
         ensures value { HasRead result.state [] }
     {
         Reader { state: State::Idle }
     }
 
-    // Reads one byte, and hands out the message that it ends.
+    /// Reads one byte, and hands out the message that it ends.
     pub fn feed(&mut self, byte: u8) -> Option<Message>
         ensures value { (result, self.new.state) ≡ step self.old.state byte }
         ensures line { (line : List ℕ) × HasRead self.old.state line }
@@ -34,8 +34,8 @@ impl Reader {
         self.state.feed(byte)
     }
 
-    // Reads the next bytes of the line and adds their messages to `out`. Room is made first, so that where
-    // there is no memory nothing is read and nothing is lost.
+    /// Reads the next bytes of the line and adds their messages to `out`. Room is made first, so that where
+    /// there is no memory nothing is read and nothing is lost.
     pub fn feed_all(&mut self, bytes: &[u8], out: &mut Vec<Message>) -> Result<(), AllocError>
         ensures items { out.new.items ≡ (if is_ok result then out.old.items ++ handed self.old.state bytes.now else out.old.items) }
         ensures after { self.new.state ≡ (if is_ok result then state_after self.old.state bytes.now else self.old.state) }
@@ -55,7 +55,7 @@ impl Reader {
     }
 }
 
-// The messages of a whole line.
+/// The messages of a whole line.
 pub fn messages(heap: Global, line: &[u8]) -> Result<Vec<Message>, AllocError>
     ensures cases { MatchResult result (λ v. v.items ≡ reading line.now) (λ _. 0 < length line.now) }
 {

@@ -1,4 +1,4 @@
-// Lines with the messages that a reader finds on them.
+//! Lines with the messages that a reader finds on them.
 #![tactic(auto)]
 
 #[cfg(test)]

@@ -13,9 +13,9 @@ use Rattle.console.specs.Tracks.{Tracks}
 use Rattle.console.proofs.Records.{recorded_none, recorded_more}
 use Rattle.organ.specs.declared.action.Action.{Action}
 use Rattle.organ.specs.declared.action.Action.TheVariants.{Nothing, Perform, LowNote}
-use Rattle.organ.specs.Actions.{action_of}
+use Rattle.organ.specs.Action.{action_of}
 use Rattle.organ.specs.Responses.{Responds}
-use Rattle.organ.specs.Lines.{Outcome, silent, low, did, IsOf, AreOf, call_in, answer_in, line_in, Answered}
+use Rattle.organ.specs.Answered.{Outcome, silent, low, did, IsOf, AreOf, call_in, answer_in, line_in, Answered}
 
 are_push : (ms : List Message) (os : List Outcome) (m : Message) (o : Outcome) → AreOf ms os → IsOf (action_of m) o → AreOf (ms ++ m ∷ []) (os ++ o ∷ [])
 are_push [] [] m o a i = (i, tt)

@@ -2,14 +2,14 @@
 use Rattle.std.proofs.Common.{◌≡◌, ℕ, Ok, Err, Result, subst}
 use Rattle.chest.specs.Meaning.{Meaning}
 use Rattle.book.specs.declared.record.Book.{Book}
-use Rattle.book.specs.Asking.{keys_in}
+use Rattle.book.specs.Book.{keys_in}
 use Rattle.board.specs.declared.board.RelayBoard.{RelayBoard}
-use Rattle.board.specs.Board.{meaning_of, Settled}
+use Rattle.board.specs.RelayBoard.{meaning_of, Settled}
 use Rattle.console.specs.declared.console.Console.{Console}
-use Rattle.console.specs.declared.knobs.KnobTable.{KnobTable}
-use Rattle.console.specs.declared.pistons.PistonTable.{PistonTable}
+use Rattle.console.specs.declared.knob_table.KnobTable.{KnobTable}
+use Rattle.console.specs.declared.piston_table.PistonTable.{PistonTable}
 use Rattle.console.specs.KnobTable.{steps_of, home_of}
-use Rattle.console.specs.Pistons.{scope_of}
+use Rattle.console.specs.PistonTable.{scope_of}
 use Rattle.console.specs.Model.{first}
 use Rattle.console.specs.Record.{Making}
 use Rattle.console.specs.Tracks.{Makes, setup_of}

@@ -8,7 +8,7 @@ use Rattle.book.specs.declared.record.BookWire.{BookWire}
 use Rattle.board.specs.Wires.{Reaches}
 use Rattle.board.specs.Layout.{Layout, with_wire}
 use Rattle.board.specs.Fitting.{fit_answer, lead_of}
-use Rattle.book.specs.Asking.{same_board}
+use Rattle.book.specs.Book.{same_board}
 use Rattle.organ.specs.Assembly.{unless_refused, fit_run}
 
 -- what a list of wires is read at past its end

@@ -11,11 +11,11 @@ use Rattle.board.specs.declared.wire.Lead.{Lead}
 use Rattle.chest.specs.Reaches.{reach_of}
 use Rattle.board.specs.Wires.{Reaches}
 use Rattle.board.specs.Layout.{Layout, layout, with_wire}
-use Rattle.board.specs.Board.{board_meaning, meaning_of, Settled}
+use Rattle.board.specs.RelayBoard.{board_meaning, meaning_of, Settled}
 use Rattle.board.specs.Fitting.{fit_answer, lead_of}
 use Rattle.board.specs.Making.{new_layout}
 use Rattle.organ.specs.declared.assembly.Refusal.{Refusal}
-use Rattle.book.specs.Asking.{same_board}
+use Rattle.book.specs.Book.{same_board}
 use Rattle.organ.specs.Assembly.{unless_refused, fit_run, Hung, both, earlier_of, hang_all, stop_layout, stop_meaning, coupler_layout, stack_meaning, Assembles}
 use Rattle.organ.proofs.Runs.{run_reach}
 

@@ -5,13 +5,13 @@ use Rattle.chest.specs.Meaning.{Meaning}
 use Rattle.book.specs.declared.forms.Board.{Board}
 use Rattle.book.specs.declared.forms.Board.TheVariants.{Coupler, Stop}
 use Rattle.book.specs.declared.record.BookWire.{BookWire}
-use Rattle.book.specs.Asking.{same_board}
+use Rattle.book.specs.Book.{same_board}
 use Rattle.board.specs.declared.board.RelayBoard.{RelayBoard}
 use Rattle.board.specs.declared.fault.BoardFault.{BoardFault}
 use Rattle.board.specs.declared.wire.Lead.{Lead}
 use Rattle.board.specs.Wires.{Reaches, image}
 use Rattle.board.specs.Layout.{Layout, with_wire}
-use Rattle.board.specs.Board.{board_meaning, meaning_of, Settled}
+use Rattle.board.specs.RelayBoard.{board_meaning, meaning_of, Settled}
 use Rattle.board.specs.Fitting.{fit_answer, lead_of}
 use Rattle.organ.specs.declared.assembly.Refusal.{Refusal}
 

@@ -1,8 +1,8 @@
-pub mod Actions
-pub mod Listing
+pub mod Action
+pub mod Line
 pub mod Assembly
 pub mod Tables
 pub mod Opening
 pub mod Responses
-pub mod Lines
+pub mod Answered
 pub mod Refused

@@ -9,7 +9,7 @@ use Rattle.organ.specs.declared.action.Action.TheVariants.{Nothing, Perform, Low
 use Rattle.organ.specs.declared.response.OutOfMemory.{OutOfMemory}
 use Rattle.organ.specs.declared.listing.Line.{Line}
 use Rattle.organ.specs.declared.listing.Line.TheVariants.{Done, Fault}
-use Rattle.organ.specs.Listing.{line_bytes, fault_bytes}
+use Rattle.organ.specs.Line.{line_bytes, fault_bytes}
 
 -- the line of an answer
 abbrev pub line_of : Answer → Line

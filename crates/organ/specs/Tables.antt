@@ -2,7 +2,7 @@
 use Rattle.std.specs.Prelude.{ℕ, Option}
 use Rattle.std.specs.Option.{option_map, unwrap_or}
 use Rattle.book.specs.declared.record.Book.{Book}
-use Rattle.book.specs.Asking.{knob_in, scope_in}
+use Rattle.book.specs.Book.{knob_in, scope_in}
 use Rattle.fittings.specs.declared.Scope.{Scope}
 
 -- the steps of a knob, none where the book does not define it; its home, 0 where it has none

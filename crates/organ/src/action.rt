@@ -1,6 +1,6 @@
-// What a message of the line asks of the console.
+//! What a message of the line asks of the console.
 ghost use Rattle.std.specs.Prelude.{◌≡◌};
-ghost use Rattle.organ.specs.Actions.{action_of, key_action, note_setting, note_action, controller_action};
+ghost use Rattle.organ.specs.Action.{action_of, key_action, note_setting, note_action, controller_action};
 
 use console::call::Call;
 use midi::Message;
@@ -19,12 +19,12 @@ const CLEAR: u8 = 123;
 // A controller is a byte, as the number of knobs is.
 const KNOBS: u8 = book::KNOBS as u8;
 
-// Three cases, so neither an option nor a result.
+/// Three cases, so neither an option nor a result.
 #[derive(Clone, Copy, Debug, PartialEq)]
 pub enum Action {
     Nothing,
     Perform(Call),
-    // A note below that of key 0.
+    /// A note below that of key 0.
     LowNote { division: usize, note: usize },
 }
 

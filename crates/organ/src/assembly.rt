@@ -1,9 +1,9 @@
-// From a book's record to a stack: coupler board and stop board over a bottom chest, with the book's wires.
+//! From a book's record to a stack: coupler board and stop board over a bottom chest, with the book's wires.
 ghost use Rattle.std.specs.Prelude.{◌≡◌, Ok, Err, MatchResult};
-ghost use Rattle.board.specs.Board.{Settled};
+ghost use Rattle.board.specs.RelayBoard.{Settled};
 ghost use Rattle.board.specs.Layout.{layout};
 ghost use Rattle.chest.specs.Reaches.{reach_of};
-ghost use Rattle.book.specs.Asking.{keys_in};
+ghost use Rattle.book.specs.Book.{keys_in};
 ghost use Rattle.organ.specs.Assembly.{refusal_number, earlier_of, fit_run, hang_all, Assembles};
 
 use board::board::RelayBoard;
@@ -12,10 +12,10 @@ use book::{Board, Book, BookWire};
 use chest::chest::{Chest, ROWS};
 use std::array;
 
-// Coupler board over stop board over a bottom chest.
+/// Coupler board over stop board over a bottom chest.
 pub type Stack<C> = RelayBoard<RelayBoard<C>>;
 
-// A wire that its board refuses, with the line where the book has it.
+/// A wire that its board refuses, with the line where the book has it.
 #[derive(Clone, Copy, Debug, PartialEq)]
 pub struct Refusal {
     pub line: usize,
@@ -23,7 +23,7 @@ pub struct Refusal {
 }
 
 impl Refusal {
-    // The number under which a refused wire is documented; the board's own fault says why.
+    /// The number under which a refused wire is documented; the board's own fault says why.
     pub fn number(self) -> u8
         ensures { result ≡ refusal_number self }
     {
@@ -79,7 +79,7 @@ fn hang<C: Chest + Drop>(
     Ok(couplers)
 }
 
-// The stack of a book over a bottom chest, or the first wire that its board refuses.
+/// The stack of a book over a bottom chest, or the first wire that its board refuses.
 pub fn assemble<C: Chest + Drop>(book: &Book, bottom: C) -> Result<Stack<C>, Refusal>
     ensures { C.Chest.settled bottom → Assembles C.Chest.meaning C.Chest.settled (keys_in book.now) (C.Chest.meaning bottom) (hang_all (keys_in book.now) (C.Chest.meaning bottom) book.now.wires.items) result }
 {

@@ -1,5 +1,5 @@
-// The whole relay: a book's record becomes a stack, messages of the line become calls, and answers become lines of a
-// listing.
+//! The whole relay: a book's record becomes a stack, messages of the line become calls, and answers become lines of a
+//! listing.
 #![tactic(auto)]
 
 pub mod action;

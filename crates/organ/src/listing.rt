@@ -1,6 +1,6 @@
-// The lines of a listing: what was done and what was refused.
+//! The lines of a listing: what was done and what was refused.
 ghost use Rattle.std.specs.Prelude.{◌≡◌, ◌+◌, true, ◌++◌, length, is_ok, if◌then◌else◌, codes, decimal};
-ghost use Rattle.organ.specs.Listing.{line_bytes, HasSpace, Grown, HasRoom, OneLineMore};
+ghost use Rattle.organ.specs.Line.{line_bytes, HasSpace, Grown, HasRoom, OneLineMore};
 ghost use Rattle.organ.specs.Refused.{fault_line, refusal_line};
 ghost use Rattle.organ.specs.Responses.{line_of};
 
@@ -10,18 +10,18 @@ use console::fault::PlayFault;
 use itoa::{Buffer, Integer};
 use std::alloc::AllocError;
 
-// The most bytes that a line can have: a word, two numbers of 20 digits, brackets, spaces and its end.
+/// The most bytes that a line can have: a word, two numbers of 20 digits, brackets, spaces and its end.
 pub const LONGEST_LINE: usize = 64;
 
 #[derive(Clone, Copy, Debug, PartialEq)]
 pub enum Line {
-    // A call was done, and this many pipes changed.
+    /// A call was done, and this many pipes changed.
     Done { count: u32 },
-    // A call was refused.
+    /// A call was refused.
     Fault(PlayFault),
-    // A text is no book.
+    /// A text is no book.
     Book(BookFault),
-    // A board refused a wire of a book.
+    /// A board refused a wire of a book.
     Wire(Refusal),
 }
 
@@ -54,7 +54,7 @@ fn push_place(listing: &mut Vec<u8>, number: u8, line: usize)
 }
 
 impl Line {
-    // Adds the line to a listing. Where there is no memory for it, the listing is as it was.
+    /// Adds the line to a listing. Where there is no memory for it, the listing is as it was.
     pub fn add_to(self, listing: &mut Vec<u8>) -> Result<(), AllocError>
         ensures items { listing.new.items ≡ (if is_ok result then listing.old.items ++ line_bytes self else listing.old.items) }
         ensures succeeds { HasRoom listing.old 1 → is_ok result ≡ true }

@@ -1,11 +1,11 @@
-// A message of the line, answered: the call that it asks for is done, and its line is added to the listing.
+//! A message of the line, answered: the call that it asks for is done, and its line is added to the listing.
 ghost use Rattle.std.specs.Prelude.{◌≡◌, true, length, take, is_ok, OnErr, OnOk};
 ghost use Rattle.console.specs.Model.{Setup, Model};
 ghost use Rattle.console.specs.Tracks.{Tracks};
-ghost use Rattle.organ.specs.Actions.{action_of};
-ghost use Rattle.organ.specs.Lines.{Answered};
+ghost use Rattle.organ.specs.Action.{action_of};
+ghost use Rattle.organ.specs.Answered.{Answered};
 ghost use Rattle.organ.specs.Responses.{until, Responds};
-ghost use Rattle.organ.specs.Listing.{HasRoom, OneLineMore};
+ghost use Rattle.organ.specs.Line.{HasRoom, OneLineMore};
 
 use crate::action::Action;
 use crate::listing::{LONGEST_LINE, Line};
@@ -15,13 +15,13 @@ use console::fault::PlayFault;
 use midi::Message;
 use std::alloc::AllocError;
 
-// There is no memory for the line of a message; those before it were answered.
+/// There is no memory for the line of a message; those before it were answered.
 #[derive(Clone, Copy, Debug, PartialEq)]
 pub struct OutOfMemory {
     pub answered: usize,
 }
 
-// Does what the message asks for. Room for the line is made first: where there is none, nothing is done.
+/// Does what the message asks for. Room for the line is made first: where there is none, nothing is done.
 pub fn respond<C: Chest>(
     console: &mut Console<C>,
     message: Message,
@@ -47,7 +47,7 @@ pub fn respond<C: Chest>(
     }
 }
 
-// Answers a line of messages. Where memory ends, the messages before were answered, and the answer says how many.
+/// Answers a line of messages. Where memory ends, the messages before were answered, and the answer says how many.
 pub fn respond_all<C: Chest>(
     console: &mut Console<C>,
     messages: &[Message],

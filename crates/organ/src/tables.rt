@@ -1,13 +1,13 @@
-// The knobs and pistons of a book, as a console takes them. Each table has calls of its own, so one function that filled
-// both would be handed all that it does.
+//! The knobs and pistons of a book, as a console takes them. Each table has calls of its own, so one function that filled
+//! both would be handed all that it does.
 ghost use Rattle.std.specs.Prelude.{◌≡◌, ℕ};
 ghost use Rattle.console.specs.KnobTable.{steps_of, home_of};
-ghost use Rattle.console.specs.Pistons.{scope_of};
+ghost use Rattle.console.specs.PistonTable.{scope_of};
 ghost use Rattle.organ.specs.Tables.{book_steps, book_home, book_scope};
 
 use book::{Book, KNOBS, PISTONS};
-use console::knobs::KnobTable;
-use console::pistons::PistonTable;
+use console::knob_table::KnobTable;
+use console::piston_table::PistonTable;
 
 // The knobs that the book defines.
 pub(crate) fn knob_table(book: &Book) -> KnobTable

@@ -1,4 +1,4 @@
-// Plays the organ of organ.book from a MIDI line on standard input, and prints what each call came to.
+//! Plays the organ of organ.book from a MIDI line on standard input, and prints what each call came to.
 #![tactic(auto)]
 
 use book::BookReader;

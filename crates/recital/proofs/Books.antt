@@ -4,9 +4,9 @@ use Rattle.std.proofs.ByRecursion.{All-weaker}
 use Rattle.std.proofs.lemmas.List.{append-nil, append_assoc}
 use Rattle.std.proofs.lemmas.Bool.{cond-false, le-ltb}
 use Rattle.book.specs.declared.forms.Form.{Form}
-use Rattle.book.specs.Entries.{Entry}
+use Rattle.book.specs.Entry.{Entry}
 use Rattle.book.specs.Grammar.{head_in, numbers_in, form_text, text_of, entries_from, entries_of, Fits, FitAfter, Good}
-use Rattle.book.specs.Heads.{spelling}
+use Rattle.book.specs.Head.{spelling}
 use Rattle.book.specs.Limits.{most_bytes}
 use Rattle.book.specs.Reading.{placed, with_line, cut, and_then, lines_from, read_of}
 use Rattle.book.proofs.Gluing.{Inner, allowed-inner, cut_line, cut-some}

@@ -5,13 +5,13 @@ use Rattle.chest.specs.Meaning.{Meaning}
 use Rattle.midi.specs.declared.message.Message.{Message}
 use Rattle.midi.specs.declared.state.State.{State}
 use Rattle.midi.specs.Reading.{reading}
-use Rattle.midi.specs.Steps.{HasRead, Feeds}
+use Rattle.midi.specs.State.{HasRead, Feeds}
 use Rattle.console.specs.declared.console.Console.{Console}
 use Rattle.console.specs.Model.{Setup, Model}
-use Rattle.organ.specs.Lines.{Answered}
+use Rattle.organ.specs.Answered.{Answered}
 use Rattle.organ.proofs.Answering.{answered_none, answered_more}
 use Rattle.recital.specs.declared.playing.Recital.{Recital}
-use Rattle.recital.specs.Playing.{Response, Hears, GoesOn}
+use Rattle.recital.specs.Recital.{Response, Hears, GoesOn}
 
 feeds_none : (s : State) → Feeds s [] [] s
 feeds_none s =

@@ -3,8 +3,8 @@ use Rattle.std.proofs.Common.{◌≡◌, ℕ, ◌<◌, Bool, true, false, cond, 
 use Rattle.std.specs.Option.{option_map}
 use Rattle.std.proofs.lemmas.Bool.{ltb-true}
 use Rattle.book.specs.declared.record.Book.{Book}
-use Rattle.book.specs.Asking.{keys_in, pipes_in, knob_in, scope_in}
-use Rattle.book.specs.Entries.{Entry, Holds, said, keys_of, pipes_of, knob_of, scope_of}
+use Rattle.book.specs.Book.{keys_in, pipes_in, knob_in, scope_in}
+use Rattle.book.specs.Entry.{Entry, Holds, said, keys_of, pipes_of, knob_of, scope_of}
 use Rattle.book.specs.Limits.{rows, knobs, pistons}
 use Rattle.fittings.specs.Tables.{place_at}
 use Rattle.organ.specs.Assembly.{Hung, hang_all, stack_meaning}

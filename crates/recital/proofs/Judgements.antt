@@ -3,19 +3,19 @@ use Rattle.std.proofs.Common.{◌≡◌, ℕ, cond, List, ◌++◌, is_ok, IfOk,
 use Rattle.chest.specs.Meaning.{Meaning}
 use Rattle.book.specs.declared.faults.BookFault.{BookFault}
 use Rattle.book.specs.declared.record.Book.{Book}
-use Rattle.book.specs.Asking.{keys_in}
-use Rattle.book.specs.Entries.{Entry}
+use Rattle.book.specs.Book.{keys_in}
+use Rattle.book.specs.Entry.{Entry}
 use Rattle.book.specs.Grammar.{Judged, entries_of}
 use Rattle.book.specs.Reading.{Answers, read_of}
 use Rattle.organ.specs.declared.assembly.Refusal.{Refusal}
 use Rattle.organ.specs.declared.listing.Line.{Line}
 use Rattle.organ.specs.Assembly.{Hung, stack_meaning}
-use Rattle.organ.specs.Listing.{line_bytes}
+use Rattle.organ.specs.Line.{line_bytes}
 use Rattle.organ.specs.Opening.{Opens, book_setup}
 use Rattle.recital.specs.Described.{setup_said, hung_said, stack_said, book_hung, book_stack}
 use Rattle.organ.specs.Refused.{fault_line, refusal_line}
 use Rattle.recital.specs.declared.playing.Recital.{Recital}
-use Rattle.recital.specs.Playing.{MagnetStack}
+use Rattle.recital.specs.Recital.{MagnetStack}
 use Rattle.recital.specs.Performing.{Gives, IsBook, Performs, faulty, unwired, played, BeginsOn, ListingLaw}
 use Rattle.recital.specs.Listings.{book_listing}
 use Rattle.recital.proofs.Descriptions.{gives_said}

@@ -5,14 +5,14 @@ use Rattle.chest.specs.Places.{Places}
 use Rattle.chest.specs.Meaning.{Meaning}
 use Rattle.midi.specs.declared.message.Message.{Message}
 use Rattle.midi.specs.Reading.{reading}
-use Rattle.midi.specs.Steps.{HasRead}
+use Rattle.midi.specs.State.{HasRead}
 use Rattle.book.specs.declared.faults.BookFault.{BookFault}
 use Rattle.book.specs.declared.record.Book.{Book}
-use Rattle.book.specs.Asking.{pipes_in}
-use Rattle.book.specs.Entries.{Entry as Written, Holds}
+use Rattle.book.specs.Book.{pipes_in}
+use Rattle.book.specs.Entry.{Entry as Written, Holds}
 use Rattle.book.specs.Reading.{Answers, read_of}
 use Rattle.board.specs.declared.board.RelayBoard.{RelayBoard}
-use Rattle.board.specs.Board.{meaning_of, Settled}
+use Rattle.board.specs.RelayBoard.{meaning_of, Settled}
 use Rattle.console.specs.declared.call.Call.{Call}
 use Rattle.console.specs.Keys.{sounding}
 use Rattle.console.specs.Model.{Setup, Model, first, after}
@@ -21,14 +21,14 @@ use Rattle.console.specs.Tracks.{Tracks}
 use Rattle.organ.specs.declared.action.Action.{Action}
 use Rattle.organ.specs.declared.action.Action.TheVariants.{Nothing, Perform, LowNote}
 use Rattle.organ.specs.declared.assembly.Refusal.{Refusal}
-use Rattle.organ.specs.Actions.{action_of}
+use Rattle.organ.specs.Action.{action_of}
 use Rattle.organ.specs.Assembly.{Hung}
-use Rattle.organ.specs.Lines.{Outcome, silent, low, did, IsOf, AreOf, call_in, line_in, Answered}
+use Rattle.organ.specs.Answered.{Outcome, silent, low, did, IsOf, AreOf, call_in, line_in, Answered}
 use Rattle.organ.specs.Opening.{Opens, OrganTracks, new_ranks}
 use Rattle.recital.specs.declared.playing.Recital.{Recital}
 use Rattle.recital.specs.Described.{setup_said, hung_said, stack_said, book_hung}
 use Rattle.recital.specs.Listings.{action_after, model_after, action_line, message_lines, organ_listing, book_listing, listing_of}
-use Rattle.recital.specs.Playing.{GoesOn, CaughtUp, ListsOn}
+use Rattle.recital.specs.Recital.{GoesOn, CaughtUp, ListsOn}
 use Rattle.recital.proofs.Descriptions.{setup-is, hung-is, stack_is}
 use Rattle.recital.proofs.Services.{told}
 

@@ -5,25 +5,25 @@ use Rattle.chest.specs.Places.{Places, changed}
 use Rattle.chest.specs.Meaning.{Meaning}
 use Rattle.midi.specs.declared.message.Message.{Message}
 use Rattle.midi.specs.Reading.{reading}
-use Rattle.midi.specs.Steps.{HasRead}
+use Rattle.midi.specs.State.{HasRead}
 use Rattle.book.specs.declared.record.Book.{Book}
-use Rattle.book.specs.Asking.{keys_in}
+use Rattle.book.specs.Book.{keys_in}
 use Rattle.board.specs.declared.board.RelayBoard.{RelayBoard}
-use Rattle.board.specs.Board.{meaning_of, Settled}
+use Rattle.board.specs.RelayBoard.{meaning_of, Settled}
 use Rattle.console.specs.declared.call.Call.{Call}
 use Rattle.console.specs.Model.{Setup, Model, first, check, after}
 use Rattle.console.specs.Record.{Answer, Entry, EntryLaw, RecordLaw, pipes_of, strobing, answer_of}
 use Rattle.organ.specs.declared.action.Action.{Action}
 use Rattle.organ.specs.declared.action.Action.TheVariants.{Nothing, Perform, LowNote}
 use Rattle.organ.specs.declared.assembly.Refusal.{Refusal}
-use Rattle.organ.specs.Actions.{action_of}
+use Rattle.organ.specs.Action.{action_of}
 use Rattle.organ.specs.Assembly.{Hung, stack_meaning}
-use Rattle.organ.specs.Lines.{Outcome, silent, low, did, IsOf, AreOf, call_in, answer_in, line_in}
-use Rattle.organ.specs.Listing.{line_bytes, fault_bytes}
+use Rattle.organ.specs.Answered.{Outcome, silent, low, did, IsOf, AreOf, call_in, answer_in, line_in}
+use Rattle.organ.specs.Line.{line_bytes, fault_bytes}
 use Rattle.organ.specs.Opening.{Opens, book_setup, organ_meaning}
 use Rattle.organ.specs.Responses.{line_of}
 use Rattle.recital.specs.declared.playing.Recital.{Recital}
-use Rattle.recital.specs.Playing.{GoesOn}
+use Rattle.recital.specs.Recital.{GoesOn}
 use Rattle.recital.specs.Performing.{Service, Gives}
 use Rattle.recital.specs.Listings.{model_answer, action_line, action_after, message_lines, organ_listing}
 

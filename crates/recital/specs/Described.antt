@@ -5,8 +5,8 @@ use Rattle.chest.specs.Meaning.{Meaning}
 use Rattle.book.specs.declared.record.Book.{Book}
 use Rattle.fittings.specs.declared.Knob.{Knob}
 use Rattle.fittings.specs.declared.Scope.{Scope}
-use Rattle.book.specs.Asking.{keys_in, pipes_in}
-use Rattle.book.specs.Entries.{Entry, said, keys_of, pipes_of, knob_of, scope_of, wires_of}
+use Rattle.book.specs.Book.{keys_in, pipes_in}
+use Rattle.book.specs.Entry.{Entry, said, keys_of, pipes_of, knob_of, scope_of, wires_of}
 use Rattle.book.specs.Limits.{rows, knobs, pistons}
 use Rattle.console.specs.Model.{Setup}
 use Rattle.organ.specs.declared.assembly.Refusal.{Refusal}

@@ -1,4 +1,4 @@
 pub mod Described
 pub mod Listings
-pub mod Playing
+pub mod Recital
 pub mod Performing

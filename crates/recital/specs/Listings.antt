@@ -5,7 +5,7 @@ use Rattle.chest.specs.Meaning.{Meaning}
 use Rattle.midi.specs.declared.message.Message.{Message}
 use Rattle.midi.specs.Reading.{reading}
 use Rattle.book.specs.declared.faults.BookFault.{BookFault}
-use Rattle.book.specs.Entries.{Entry}
+use Rattle.book.specs.Entry.{Entry}
 use Rattle.book.specs.Reading.{read_of}
 use Rattle.console.specs.declared.call.Call.{Call}
 use Rattle.console.specs.Model.{Setup, Model, first, check, after}
@@ -13,9 +13,9 @@ use Rattle.console.specs.Record.{Answer, pipes_of, strobing, answer_of}
 use Rattle.organ.specs.declared.action.Action.{Action}
 use Rattle.organ.specs.declared.action.Action.TheVariants.{Nothing, Perform, LowNote}
 use Rattle.organ.specs.declared.assembly.Refusal.{Refusal}
-use Rattle.organ.specs.Actions.{action_of}
+use Rattle.organ.specs.Action.{action_of}
 use Rattle.organ.specs.Assembly.{Hung}
-use Rattle.organ.specs.Listing.{line_bytes, fault_bytes}
+use Rattle.organ.specs.Line.{line_bytes, fault_bytes}
 use Rattle.organ.specs.Responses.{line_of}
 use Rattle.organ.specs.Refused.{fault_line, refusal_line}
 use Rattle.recital.specs.Described.{setup_said, hung_said, stack_said}

@@ -5,7 +5,7 @@ use Rattle.chest.specs.Meaning.{Meaning}
 use Rattle.midi.specs.Reading.{reading}
 use Rattle.book.specs.declared.faults.BookFault.{BookFault}
 use Rattle.book.specs.declared.forms.Form.{Form}
-use Rattle.book.specs.Entries.{Entry as Written}
+use Rattle.book.specs.Entry.{Entry as Written}
 use Rattle.book.specs.Grammar.{text_of, entries_of, Good, Rejects}
 use Rattle.book.specs.Reading.{read_of}
 use Rattle.console.specs.Model.{Setup, first}
@@ -13,11 +13,11 @@ use Rattle.console.specs.Record.{Entry, RecordLaw, Making}
 use Rattle.organ.specs.declared.assembly.Refusal.{Refusal}
 use Rattle.organ.specs.declared.listing.Line.{Line}
 use Rattle.organ.specs.Assembly.{Hung}
-use Rattle.organ.specs.Lines.{Outcome, AreOf, call_in, answer_in, line_in}
-use Rattle.organ.specs.Listing.{line_bytes}
+use Rattle.organ.specs.Answered.{Outcome, AreOf, call_in, answer_in, line_in}
+use Rattle.organ.specs.Line.{line_bytes}
 use Rattle.organ.specs.Refused.{fault_line, refusal_line}
 use Rattle.recital.specs.declared.playing.Recital.{Recital}
-use Rattle.recital.specs.Playing.{GoesOn, MagnetStack, magnet_stack_meaning, MagnetStackSettled}
+use Rattle.recital.specs.Recital.{GoesOn, MagnetStack, magnet_stack_meaning, MagnetStackSettled}
 use Rattle.recital.specs.Described.{setup_said, hung_said, stack_said}
 use Rattle.recital.specs.Listings.{listing_of}
 

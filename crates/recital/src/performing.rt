@@ -1,15 +1,15 @@
-// A whole performance: from the text of a book and the bytes of a line to the listing.
+//! A whole performance: from the text of a book and the bytes of a line to the listing.
 ghost use Rattle.std.specs.Prelude.{◌≡◌, ◌+◌, true, ◌++◌, length, is_ok, OnErr, OnOk};
 ghost use Rattle.recital.specs.Listings.{listing_of};
 ghost use Rattle.recital.specs.Performing.{Performed};
-ghost use Rattle.organ.specs.Listing.{HasRoom};
+ghost use Rattle.organ.specs.Line.{HasRoom};
 
 use crate::playing::MagnetRecital;
 use book::BookReader;
 use std::alloc::{AllocError, Global};
 
-// Reads a book's text, plays its organ from the bytes of a line, and adds to the listing what each call came to;
-// or adds the line of the text's fault, or that of the first wire that its board refuses.
+/// Reads a book's text, plays its organ from the bytes of a line, and adds to the listing what each call came to;
+/// or adds the line of the text's fault, or that of the first wire that its board refuses.
 pub fn perform_with(
     reader: BookReader,
     text: &[u8],
@@ -27,7 +27,7 @@ pub fn perform_with(
     }
 }
 
-// The same with a new reader of books.
+/// The same with a new reader of books.
 pub fn perform(
     heap: Global,
     text: &[u8],

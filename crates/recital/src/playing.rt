@@ -1,14 +1,14 @@
-// A recital: a console and the reader of its line, played as the bytes come.
+//! A recital: a console and the reader of its line, played as the bytes come.
 ghost use Rattle.std.specs.Prelude.{◌≡◌, ℕ, ◌+◌, ◌*◌, ◌<◌, ◌≤◌, true, List, [], length, is_ok, IfOk, Ok, vec_len, vec_capacity, MatchResult, OnErr, OnOk};
 ghost use Rattle.book.specs.Reading.{Answers, read_of};
 ghost use Rattle.console.specs.Sending.{Sends, StillTracks};
-ghost use Rattle.midi.specs.Steps.{HasRead};
-ghost use Rattle.recital.specs.Playing.{Hears, GoesOn, CaughtUp, ListsOn, Begins, magnet_stack_meaning, MagnetStackSettled};
+ghost use Rattle.midi.specs.State.{HasRead};
+ghost use Rattle.recital.specs.Recital.{Hears, GoesOn, CaughtUp, ListsOn, Begins, magnet_stack_meaning, MagnetStackSettled};
 ghost use Rattle.recital.specs.Performing.{BeginsOn};
-ghost use Rattle.organ.specs.Listing.{HasRoom, OneLineMore};
+ghost use Rattle.organ.specs.Line.{HasRoom, OneLineMore};
 
 use book::{Book, BookReader};
-use bottom::magnet::MagnetChest;
+use bottom::magnet_chest::MagnetChest;
 use chest::chest::Chest;
 use chest::sender::Sender;
 use console::console::Console;
@@ -25,7 +25,7 @@ pub struct Recital<C: Chest> {
     reader: Reader,
 }
 
-// A recital on coupler board and stop board over a magnet chest.
+/// A recital on coupler board and stop board over a magnet chest.
 pub type MagnetRecital = Recital<Stack<MagnetChest>>;
 
 // Makes room for this many lines.
@@ -37,7 +37,7 @@ fn make_room(listing: &mut Vec<u8>, count: usize) -> Result<(), AllocError>
 }
 
 impl<C: Chest> Recital<C> {
-    // A recital on this console, before the first byte of its line.
+    /// A recital on this console, before the first byte of its line.
     pub fn new(console: Console<C>) -> Recital<C>
         ensures value { (result.console ≡ console) × HasRead result.reader.state [] }
     {
@@ -47,7 +47,7 @@ impl<C: Chest> Recital<C> {
         }
     }
 
-    // The console, to be looked at.
+    /// The console, to be looked at.
     pub fn console(&self) -> &Console<C>
         ensures value { result.now ≡ self.now.console }
     {
@@ -65,8 +65,8 @@ impl<C: Chest> Recital<C> {
         }
     }
 
-    // Reads the next bytes of the line and answers each message that they end. Room for their lines is made first:
-    // where there is none, nothing is read and nothing is done.
+    /// Reads the next bytes of the line and answers each message that they end. Room for their lines is made first:
+    /// where there is none, nothing is read and nothing is done.
     pub fn play(&mut self, bytes: &[u8], listing: &mut Vec<u8>) -> Result<(), AllocError>
         ensures law { OnOk result (GoesOn C.Chest.meaning C.Chest.settled self.old self.new bytes.now listing.old.items listing.new.items) }
         ensures items { OnOk result ((text line : List ℕ) → CaughtUp C.Chest.meaning C.Chest.settled self.old text line → ListsOn C.Chest.meaning C.Chest.settled self.new bytes.now listing.old.items listing.new.items text line) }
@@ -82,8 +82,8 @@ impl<C: Chest> Recital<C> {
 }
 
 impl<C: Sender> Recital<C> {
-    // Has the chest at the foot write to a buffer what its receiver is to be told, and answers how many bytes it wrote.
-    // Nothing is read and nothing is played.
+    /// Has the chest at the foot write to a buffer what its receiver is to be told, and answers how many bytes it wrote.
+    /// Nothing is read and nothing is played.
     pub fn send(&mut self, buffer: &mut [u8]) -> usize
         ensures law { Sends C.Sender.sends self.old.console buffer.old result buffer.new self.new.console }
         ensures same { (self.new.reader ≡ self.old.reader) × (C.Chest.meaning self.new.console.chest ≡ C.Chest.meaning self.old.console.chest) }
@@ -96,7 +96,7 @@ impl<C: Sender> Recital<C> {
 }
 
 impl Recital<Stack<MagnetChest>> {
-    // A recital on the organ of a book over a magnet chest with its ranks, or the first wire that its board refuses.
+    /// A recital on the organ of a book over a magnet chest with its ranks, or the first wire that its board refuses.
     pub fn open(book: &Book) -> Result<MagnetRecital, Refusal>
         ensures cases { Begins book.now result }
         ensures law { IfOk result (λ q. (text : List ℕ) → Answers (Ok book.now) (read_of text) → CaughtUp magnet_stack_meaning MagnetStackSettled q text []) }
@@ -105,8 +105,8 @@ impl Recital<Stack<MagnetChest>> {
         Ok(Recital::new(console))
     }
 
-    // A recital on the organ of a book's text; or the one line that is listed for this text, whatever is played: that of
-    // its fault, or that of the first wire that its board refuses.
+    /// A recital on the organ of a book's text; or the one line that is listed for this text, whatever is played: that of
+    /// its fault, or that of the first wire that its board refuses.
     pub fn open_text(reader: BookReader, text: &[u8]) -> Result<MagnetRecital, Line>
         ensures cases { BeginsOn text.now result }
         ensures law { IfOk result (λ q. CaughtUp magnet_stack_meaning MagnetStackSettled q text.now []) }

@@ -4,7 +4,7 @@ use Rattle.std.specs.Int.{bit_at, bit_not, trailing_zeros}
 use Rattle.std.proofs.lemmas.Bool.{cases_eq, cases_lt}
 use Rattle.std.proofs.lemmas.Bool.Decides.{nat_tests}
 use Rattle.std.proofs.lemmas.Nat.Bits.{bit_at-zero, bit_at_and, bit_at-lt, bit_at_above, bit_at_set_same, bit_at_set_other, bit_at_clear_same, bit_at_clear_other, bit_at-trailing_zeros}
-use Rattle.sets.specs.Sets.{nothing, with_number, both, bits_of}
+use Rattle.sets.specs.Numbers.{nothing, with_number, both, bits_of}
 
 pub bits_none : bits_of 0 ≡ nothing
 bits_none = λ i k. ap (λ x. eqb x 1) (bit_at-zero k) i

@@ -3,9 +3,9 @@ use Rattle.std.proofs.Common.{◌≡◌, ℕ, ◌+◌, ◌-◌, ◌<◌, ◌≤�
 use Rattle.std.proofs.lemmas.Bool.{cases_lt, false≢true}
 use Rattle.std.proofs.lemmas.Bool.Decides.{nat_tests}
 use Rattle.sets.specs.declared.word.Word.{Word}
-use Rattle.sets.specs.Members.{members, left_of, empty}
+use Rattle.sets.specs.NumberSet.{members, left_of, empty}
 use Rattle.sets.proofs.Bits.{bits_none}
-use Rattle.sets.specs.Sets.{Numbers, nothing, with_number, both, bits_of, PopsFirst}
+use Rattle.sets.specs.Numbers.{Numbers, nothing, with_number, both, bits_of, PopsFirst}
 
 -- the one's numbers, and the other's after them
 abbrev pub joined : Numbers → Numbers → Numbers

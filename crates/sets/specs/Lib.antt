@@ -1,2 +1,2 @@
-pub mod Sets
-pub mod Members
+pub mod Numbers
+pub mod NumberSet

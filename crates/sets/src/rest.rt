@@ -1,12 +1,12 @@
-// What is left of a set while its numbers are taken one by one.
+//! What is left of a set while its numbers are taken one by one.
 ghost use Rattle.std.specs.Prelude.{◌≡◌, ◌<◌, IfSome};
-ghost use Rattle.sets.specs.Sets.{PopsFirst};
+ghost use Rattle.sets.specs.Numbers.{PopsFirst};
 
 use crate::set::WORD;
 use crate::word::Word;
 
-// The word that is walked, and the high word while that is the low one. Not a set that shrinks: then a processor would hold
-// both words in one register, and take each number out of that.
+/// The word that is walked, and the high word while that is the low one. Not a set that shrinks: then a processor would hold
+/// both words in one register, and take each number out of that.
 #[derive(Clone, Copy)]
 pub struct Rest {
     pub(crate) word: Word,
@@ -14,9 +14,9 @@ pub struct Rest {
 }
 
 impl Rest {
-    ghost use Rattle.sets.specs.Members.{remaining};
+    ghost use Rattle.sets.specs.NumberSet.{remaining};
 
-    // Takes out the least number.
+    /// Takes out the least number.
     pub fn pop_first(&mut self) -> Option<usize>
         ensures value { PopsFirst (remaining self.old) (remaining self.new) result }
         ensures bound { IfSome result (λ number. number < 128) }

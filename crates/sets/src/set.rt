@@ -1,6 +1,6 @@
-// A set of numbers below 128.
+//! A set of numbers below 128.
 ghost use Rattle.std.specs.Prelude.{◌≡◌, ◌<◌, ◌≤◌};
-ghost use Rattle.sets.specs.Sets.{nothing, with_number, both};
+ghost use Rattle.sets.specs.Numbers.{nothing, with_number, both};
 
 use crate::rest::Rest;
 use crate::word::Word;
@@ -8,7 +8,7 @@ use crate::word::Word;
 // The numbers of a word.
 pub(crate) const WORD: usize = 64;
 
-// Two words and not one of 128 bits, which a processor has no register for.
+/// Two words and not one of 128 bits, which a processor has no register for.
 #[derive(Clone, Copy)]
 pub struct NumberSet {
     low: Word,
@@ -16,7 +16,7 @@ pub struct NumberSet {
 }
 
 impl NumberSet {
-    ghost use Rattle.sets.specs.Members.{members, remaining};
+    ghost use Rattle.sets.specs.NumberSet.{members, remaining};
 
     pub fn none() -> NumberSet
         ensures { members result ≡ nothing }
@@ -39,7 +39,7 @@ impl NumberSet {
         }
     }
 
-    // The set with a number in or out. There is none past 127.
+    /// The set with a number in or out. There is none past 127.
     pub fn with(mut self, number: usize, on: bool) -> NumberSet
         ensures value { number < 128 → members result ≡ with_number (members self) number on }
         ensures past { 128 ≤ number → result ≡ self }
@@ -52,7 +52,7 @@ impl NumberSet {
         self
     }
 
-    // The numbers, to be taken one by one.
+    /// The numbers, to be taken one by one.
     pub fn rest(self) -> Rest
         ensures { remaining result ≡ members self }
     {

@@ -1,6 +1,6 @@
-// A set of numbers below 64, as the bits of a word.
+//! A set of numbers below 64, as the bits of a word.
 ghost use Rattle.std.specs.Prelude.{◌≡◌, ◌<◌, ◌^◌, IfSome};
-ghost use Rattle.sets.specs.Sets.{nothing, with_number, both, bits_of, PopsFirst};
+ghost use Rattle.sets.specs.Numbers.{nothing, with_number, both, bits_of, PopsFirst};
 
 #[derive(Clone, Copy)]
 pub(crate) struct Word {

@@ -1,4 +1,4 @@
-// The calls of a chest, on what both bottom chests keep.
+//! The calls of a chest, on what both bottom chests keep.
 ghost use Rattle.std.specs.Prelude.{◌≡◌, OnErr};
 ghost use Rattle.chest.specs.Places.{changed};
 ghost use Rattle.chest.specs.Meaning.{reach_answer, position_answer, set_answer, set_after, turn_answer, turn_after, strobe_after};

@@ -1,14 +1,14 @@
-// The drain of a MIDI chest: messages for the pending pipes, as many as a buffer takes.
+//! The drain of a MIDI chest: messages for the pending pipes, as many as a buffer takes.
 ghost use Rattle.std.specs.Prelude.{◌≡◌, ℕ, ◌+◌, ◌*◌, ◌<◌, ◌≤◌, List, ◌++◌, length, take, drop};
 ghost use Rattle.bottom.specs.Drain.{count_of_places, message_bytes};
 ghost use Rattle.bottom.specs.Draining.{UpTo, GoesOn};
-ghost use Rattle.bottom.specs.Layout.{shown};
-ghost use Rattle.bottom.specs.Midi.{midi_meaning, midi_sent, midi_drained};
+ghost use Rattle.bottom.specs.PipeTable.{shown};
+ghost use Rattle.bottom.specs.MidiChest.{midi_meaning, midi_sent, midi_drained};
 ghost use Rattle.bottom.specs.Receiver.{DrainLaw};
 ghost use Rattle.bottom.specs.Run.{Run};
 
 use crate::midi_chest::MidiChest;
-use crate::table::{BYTE_PLACES, BYTES, PipeTable};
+use crate::pipe_table::{BYTE_PLACES, BYTES, PipeTable};
 use chest::chest::PLACES;
 use chest::place::Place;
 
@@ -22,7 +22,7 @@ const NOTE_ON: u8 = 0x90;
 const VELOCITY: u8 = 64;
 
 impl MidiChest {
-    // Writes a start or a stop for each pending pipe, by rising row and then place, while three more bytes fit.
+    /// Writes a start or a stop for each pending pipe, by rising row and then place, while three more bytes fit.
     pub fn drain(&mut self, out: &mut [u8]) -> usize
         ensures answer { result ≡ length (midi_drained self.old (length out.old)).bytes }
         ensures bound { result ≤ length out.new }

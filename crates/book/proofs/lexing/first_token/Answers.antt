@@ -3,7 +3,7 @@ use Rattle.std.proofs.lemmas.List.{take_rest}
 use Rattle.std.specs.Option.{option_map}
 use Rattle.book.specs.Bytes.{letter, numeric}
 use Rattle.book.specs.declared.lexing.Token.TheVariants.{Word, Number}
-use Rattle.book.specs.Tokens.{Cuts}
+use Rattle.book.specs.Token.{Cuts}
 use Rattle.book.proofs.Cutting.{split_first, number_cut, word_cut}
 use Rattle.book.proofs.lexing.first_token.Goals as goal
 

@@ -1,7 +1,7 @@
 use Rattle.std.proofs.Common.{ap, ◌∙◌, w16, SFits, rules, false-eqb}
 use Rattle.std.proofs.lemmas.Int.{to_z-of_z}
 use Rattle.book.specs.Pieces.{pieces, numbers_of}
-use Rattle.book.specs.Tokens.{token_before}
+use Rattle.book.specs.Token.{token_before}
 use Rattle.book.proofs.Counting.{stop, go_on, kept_more, none-after_close}
 use Rattle.book.proofs.shapes.read_numbers.Goals as goal
 

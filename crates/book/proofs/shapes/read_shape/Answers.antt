@@ -2,7 +2,7 @@ use Rattle.std.proofs.Common.{◌≡◌, ◌∷◌, sym, ap, ◌∙◌, subst}
 use Rattle.book.specs.Bytes.{opening}
 use Rattle.book.specs.Pieces.{pieces, run, mark, letters, shape_of}
 use Rattle.book.specs.Shapes.{Shapes}
-use Rattle.book.specs.Tokens.{token_before}
+use Rattle.book.specs.Token.{token_before}
 use Rattle.book.proofs.Counting.{shape_some, shape_none}
 use Rattle.book.proofs.shapes.read_shape.Goals as goal
 use Rattle.book.proofs.shapes.read_shape.Goals.{In-Word}

@@ -3,7 +3,7 @@ use Rattle.std.proofs.Common.{◌≡◌, ◌≤◌, vec_items, rules, arith}
 use Rattle.std.proofs.lemmas.Bool.Decides.{nat_tests}
 use Rattle.chest.proofs.Arrays.{from_fn_each, reaches_held}
 use Rattle.chest.specs.Reaches.{reach_of}
-use Rattle.book.specs.Asking.{keys_in}
+use Rattle.book.specs.Book.{keys_in}
 use Rattle.organ.proofs.Stacks.{assembles_as}
 use Rattle.organ.proofs.assembly.assemble.Goals as goal
 

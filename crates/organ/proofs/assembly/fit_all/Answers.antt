@@ -4,8 +4,8 @@ use Rattle.std.proofs.Common.{◌≡◌, ◌+◌, get_or, drop, Ok, sym, refl, a
 use Rattle.book.specs.contracts.forms.Board.{the_type}
 use Rattle.book.specs.declared.forms.Board.{Board}
 use Rattle.book.specs.declared.forms.Board.TheVariants.{Coupler, Stop}
-use Rattle.book.specs.Asking.{same_board}
-use Rattle.board.specs.Board.{Settled}
+use Rattle.book.specs.Book.{same_board}
+use Rattle.board.specs.RelayBoard.{Settled}
 use Rattle.board.specs.Layout.{layout, with_wire}
 use Rattle.board.specs.Fitting.{fit_answer, lead_of}
 use Rattle.organ.specs.Assembly.{fit_run}

@@ -1,6 +1,6 @@
 -- So far the wires before this one are fitted: what is left of the run starts here.
 use Rattle.std.proofs.Common.{◌≡◌, drop}
-use Rattle.board.specs.Board.{Settled}
+use Rattle.board.specs.RelayBoard.{Settled}
 use Rattle.board.specs.Layout.{layout}
 use Rattle.organ.specs.Assembly.{fit_run}
 use Rattle.organ.proofs.assembly.fit_all.Given as goal

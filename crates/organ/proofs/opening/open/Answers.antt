@@ -1,6 +1,6 @@
 -- The stack is assembled, and its console made.
 use Rattle.std.proofs.Common.{vec_items, subst, ◌≡◌, Ok, rules}
-use Rattle.book.specs.Asking.{keys_in}
+use Rattle.book.specs.Book.{keys_in}
 use Rattle.organ.specs.Assembly.{Assembles, hang_all}
 use Rattle.organ.proofs.Organs.{opens}
 use Rattle.organ.proofs.opening.open.Goals as goal

@@ -3,8 +3,8 @@ use Rattle.std.proofs.Common.{◌≤◌, rules, arith, ◌≡◌, vec_items, ap,
 use Rattle.std.proofs.lemmas.Bool.Decides.{nat_tests}
 use Rattle.chest.proofs.Arrays.{from_fn_each, reaches_held}
 use Rattle.chest.specs.Reaches.{reach_of}
-use Rattle.book.specs.Asking.{keys_in, pipes_in}
-use Rattle.bottom.specs.Magnet.{magnet_meaning, MagnetSettled}
+use Rattle.book.specs.Book.{keys_in, pipes_in}
+use Rattle.bottom.specs.MagnetChest.{magnet_meaning, MagnetSettled}
 use Rattle.organ.specs.Assembly.{hang_all}
 use Rattle.organ.specs.Opening.{Opens, new_ranks}
 use Rattle.organ.proofs.opening.open_magnets.Goals as goal

@@ -3,9 +3,9 @@ use Rattle.std.proofs.Common.{◌≡◌, length, get_or, take, vec_items, Ok, su
 use Rattle.std.proofs.lemmas.List.{take_more}
 use Rattle.std.proofs.lemmas.Result.{IfOk-at_ok}
 use Rattle.midi.specs.declared.message.Message.TheVariants.{NoteOff}
-use Rattle.organ.specs.Actions.{action_of}
+use Rattle.organ.specs.Action.{action_of}
 use Rattle.organ.specs.Responses.{Responds}
-use Rattle.organ.specs.Lines.{Answered}
+use Rattle.organ.specs.Answered.{Answered}
 use Rattle.organ.proofs.Answering.{answered_more}
 use Rattle.organ.proofs.response.respond_all.Goals as goal
 

@@ -2,7 +2,7 @@
 use Rattle.std.proofs.Common.{◌+◌, ◌*◌, ◌≤◌, take, vec_items, vec_len, vec_capacity}
 use Rattle.console.specs.Model.{Setup, Model}
 use Rattle.console.specs.Tracks.{Tracks}
-use Rattle.organ.specs.Lines.{Answered}
+use Rattle.organ.specs.Answered.{Answered}
 use Rattle.organ.proofs.response.respond_all.Given as goal
 
 abbrev pub invariant-loop-answered : goal.invariant-loop-answered

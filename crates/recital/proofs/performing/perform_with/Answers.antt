@@ -1,7 +1,7 @@
 -- The one line is listed, and that is the text's listing.
 use Rattle.std.proofs.Common.{◌++◌, ◌∙◌, vec_items, ap}
 use Rattle.std.proofs.lemmas.Result.{IfOk-weaker}
-use Rattle.organ.specs.Listing.{line_bytes}
+use Rattle.organ.specs.Line.{line_bytes}
 use Rattle.recital.specs.Performing.{Performs}
 use Rattle.recital.proofs.Judgements.{added, listing_law}
 use Rattle.recital.proofs.performing.perform_with.Goals as goal

@@ -1,5 +1,5 @@
 use Rattle.std.proofs.Common.{refl}
-use Rattle.board.specs.Swings.{starts}
+use Rattle.board.specs.Swing.{starts}
 use Rattle.board.proofs.Standing.{keeps-put}
 use Rattle.board.proofs.below.Below.bump.Goals as goal
 

@@ -1,11 +1,11 @@
 -- Of the wires that are left the ways count as before, of the others by the register after.
 use Rattle.std.proofs.Common.{◌≡◌, ℕ, ◌<◌, true, is_some}
 use Rattle.chest.specs.Places.{put}
-use Rattle.sets.specs.Members.{remaining}
+use Rattle.sets.specs.NumberSet.{remaining}
 use Rattle.board.specs.Wires.{through}
 use Rattle.board.specs.Wiring.{beneath, register, panel, wires, outlet}
 use Rattle.board.specs.Index.{among}
-use Rattle.board.specs.Swings.{starts}
+use Rattle.board.specs.Swing.{starts}
 use Rattle.board.specs.Counts.{at_place}
 use Rattle.board.specs.Below.{Keeps}
 use Rattle.board.proofs.Sums.{mixed, left}

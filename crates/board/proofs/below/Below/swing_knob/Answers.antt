@@ -1,10 +1,10 @@
 -- Each wire that waits for the knob is walked once.
 use Rattle.std.proofs.Common.{◌≡◌, ◌+◌, cond, get_or, Some, None, sym, ap, ◌∙◌, subst}
-use Rattle.sets.specs.Members.{remaining}
+use Rattle.sets.specs.NumberSet.{remaining}
 use Rattle.board.specs.Wires.{span}
 use Rattle.board.specs.Wiring.{beneath, register, wires, swing}
 use Rattle.board.specs.Index.{waits}
-use Rattle.board.specs.Swings.{starts}
+use Rattle.board.specs.Swing.{starts}
 use Rattle.board.specs.Counts.{at_place, Fits}
 use Rattle.board.proofs.Sums.{mixed_start, mixed_end, left_less}
 use Rattle.board.proofs.Among.{among_in, still_in, left_out}

@@ -1,7 +1,7 @@
 -- Of the wires that are left the ways count as before, of the others by the panel after.
 use Rattle.std.proofs.Common.{◌≡◌, ℕ, ◌<◌, true}
 use Rattle.chest.specs.Meaning.{knob_to}
-use Rattle.sets.specs.Members.{remaining}
+use Rattle.sets.specs.NumberSet.{remaining}
 use Rattle.board.specs.Wires.{through}
 use Rattle.board.specs.Wiring.{beneath, register, panel, wires}
 use Rattle.board.specs.Index.{among, waits}

@@ -1,9 +1,9 @@
 -- Each set key of the wire's row is walked once.
 use Rattle.std.proofs.Common.{◌≡◌, ◌+◌, ◌<◌, cond, Some, None, sym, ap, ◌∙◌, subst, arith}
 use Rattle.std.specs.Option.{option_map}
-use Rattle.sets.specs.Members.{remaining}
+use Rattle.sets.specs.NumberSet.{remaining}
 use Rattle.board.specs.Wiring.{beneath, register}
-use Rattle.board.specs.Swings.{starts}
+use Rattle.board.specs.Swing.{starts}
 use Rattle.board.specs.Counts.{at_place, Fits, one_at}
 use Rattle.board.proofs.Sums.{left_less}
 use Rattle.board.proofs.Ways.{lands-below}

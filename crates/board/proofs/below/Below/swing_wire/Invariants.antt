@@ -1,7 +1,7 @@
 -- The ways of the wire are counted, but for those of the keys that are left.
-use Rattle.sets.specs.Members.{remaining}
+use Rattle.sets.specs.NumberSet.{remaining}
 use Rattle.board.specs.Wiring.{beneath}
-use Rattle.board.specs.Swings.{starts}
+use Rattle.board.specs.Swing.{starts}
 use Rattle.board.specs.Below.{Keeps}
 use Rattle.board.proofs.Counting.{Left}
 use Rattle.board.proofs.Sums.{left}

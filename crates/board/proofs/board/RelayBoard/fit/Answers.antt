@@ -2,7 +2,7 @@
 use Rattle.std.proofs.Common.{◌≡◌, ◌<◌, true, length, sym, refl, ap, ◌∙◌, subst, arith}
 use Rattle.std.proofs.lemmas.Bool.Decides.{nat_tests}
 use Rattle.board.specs.Layout.{layout, with_wire}
-use Rattle.board.specs.Board.{board_meaning, Stands}
+use Rattle.board.specs.RelayBoard.{board_meaning, Stands}
 use Rattle.board.specs.Counts.{Exact}
 use Rattle.board.specs.Fitting.{is_free, wire_checks, lead_of}
 use Rattle.board.proofs.Images.{ways_push_free}

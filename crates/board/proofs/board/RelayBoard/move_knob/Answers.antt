@@ -3,7 +3,7 @@ use Rattle.std.proofs.Common.{◌≡◌, sym, refl, ap, ◌∙◌, subst}
 use Rattle.chest.specs.Meaning.{Meaning, knob_to, with_panel, with_register}
 use Rattle.chest.proofs.Calls.{turn_done}
 use Rattle.board.specs.Layout.{layout, with_knob}
-use Rattle.board.specs.Board.{board_meaning, Stands}
+use Rattle.board.specs.RelayBoard.{board_meaning, Stands}
 use Rattle.board.specs.Counts.{Exact}
 use Rattle.board.proofs.Standing.{standing-image}
 use Rattle.board.proofs.Boards.{below_is, turn_board}

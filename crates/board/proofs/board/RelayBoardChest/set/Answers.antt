@@ -3,7 +3,7 @@ use Rattle.std.proofs.Common.{◌<◌, sym, ap, ◌∙◌, subst}
 use Rattle.std.proofs.lemmas.Bool.{not-false}
 use Rattle.chest.specs.Meaning.{with_register}
 use Rattle.chest.proofs.Calls.{set-done, put-still}
-use Rattle.board.specs.Board.{meaning_of}
+use Rattle.board.specs.RelayBoard.{meaning_of}
 use Rattle.board.proofs.board.RelayBoardChest.set.Goals as goal
 
 pub returns-else-is_set-on-clause-after : goal.returns-else-is_set-on-clause-after

@@ -1,6 +1,6 @@
 -- The wire is added to its row.
 use Rattle.std.proofs.Common.{◌<◌, ◌&&◌, true, cond, eqb, get_or, sym, ap, ◌∙◌, subst}
-use Rattle.sets.specs.Members.{members, empty}
+use Rattle.sets.specs.NumberSet.{members, empty}
 use Rattle.board.specs.Index.{leads_from}
 use Rattle.board.specs.Indexed.{row_of}
 use Rattle.board.proofs.Indexes.{table_put, either_way}

@@ -1,7 +1,7 @@
 use Rattle.std.proofs.Common.{◌≡◌}
 use Rattle.fittings.proofs.Filled.{replicated}
-use Rattle.sets.specs.Sets.{nothing}
-use Rattle.sets.specs.Members.{members, empty}
+use Rattle.sets.specs.Numbers.{nothing}
+use Rattle.sets.specs.NumberSet.{members, empty}
 use Rattle.sets.proofs.Joined.{members_empty}
 use Rattle.board.proofs.index.Waiting.none.Goals as goal
 

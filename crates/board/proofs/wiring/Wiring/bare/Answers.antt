@@ -4,8 +4,8 @@ use Rattle.std.proofs.lemmas.Bool.{false≢true}
 use Rattle.fittings.proofs.Filled.{replicated}
 use Rattle.chest.specs.Reaches.{reaches_of}
 use Rattle.chest.specs.Positions.{positions_of}
-use Rattle.sets.specs.Sets.{nothing}
-use Rattle.sets.specs.Members.{members, empty}
+use Rattle.sets.specs.Numbers.{nothing}
+use Rattle.sets.specs.NumberSet.{members, empty}
 use Rattle.sets.specs.declared.set.NumberSet.{NumberSet}
 use Rattle.sets.proofs.Joined.{members_empty}
 use Rattle.board.specs.Wires.{live}

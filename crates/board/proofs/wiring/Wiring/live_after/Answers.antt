@@ -4,10 +4,10 @@ use Rattle.std.proofs.lemmas.Bool.{cases_eq, cases_lt}
 use Rattle.std.proofs.lemmas.Bool.Decides.{nat_tests}
 use Rattle.chest.specs.Meaning.{Panel, knob_to}
 use Rattle.chest.specs.Positions.{positions_of}
-use Rattle.sets.specs.Sets.{Numbers, with_number, PopsFirst}
+use Rattle.sets.specs.Numbers.{Numbers, with_number, PopsFirst}
 use Rattle.board.specs.declared.wire.Lead.{Lead}
 use Rattle.board.proofs.Indexes.{live_same}
-use Rattle.sets.specs.Members.{members, remaining}
+use Rattle.sets.specs.NumberSet.{members, remaining}
 use Rattle.board.specs.Wires.{live}
 use Rattle.board.specs.Wiring.{panel, wires}
 use Rattle.board.specs.Index.{among, waits, blank}

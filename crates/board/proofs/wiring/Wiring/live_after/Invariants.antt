@@ -2,7 +2,7 @@
 use Rattle.std.proofs.Common.{◌≡◌, ℕ, true, cond}
 use Rattle.chest.specs.Meaning.{knob_to}
 use Rattle.chest.specs.Positions.{positions_of}
-use Rattle.sets.specs.Members.{members, remaining}
+use Rattle.sets.specs.NumberSet.{members, remaining}
 use Rattle.board.specs.Wires.{live}
 use Rattle.board.specs.Wiring.{panel, wires}
 use Rattle.board.specs.Index.{among, waits}

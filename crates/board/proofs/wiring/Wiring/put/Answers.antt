@@ -5,8 +5,8 @@ use Rattle.std.proofs.lemmas.List.{length-set}
 use Rattle.chest.specs.Reaches.{reaches_of}
 use Rattle.chest.specs.Places.{put}
 use Rattle.sets.specs.declared.set.NumberSet.{NumberSet}
-use Rattle.sets.specs.Sets.{with_number}
-use Rattle.sets.specs.Members.{members, empty}
+use Rattle.sets.specs.Numbers.{with_number}
+use Rattle.sets.specs.NumberSet.{members, empty}
 use Rattle.board.specs.declared.wiring.Wiring.{Wiring}
 use Rattle.board.specs.Layout.{layout}
 use Rattle.board.specs.Wiring.{register}

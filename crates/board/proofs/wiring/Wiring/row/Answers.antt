@@ -1,6 +1,6 @@
 use Rattle.std.proofs.Common.{◌≤◌, sym, ap, ◌∙◌, subst}
 use Rattle.std.proofs.lemmas.List.{get_or_past}
-use Rattle.sets.specs.Members.{members, empty}
+use Rattle.sets.specs.NumberSet.{members, empty}
 use Rattle.sets.proofs.Joined.{members_empty}
 use Rattle.board.proofs.wiring.Wiring.row.Goals as goal
 

@@ -1,6 +1,6 @@
 -- The wires that lead somewhere from the key and are live.
 use Rattle.std.proofs.Common.{◌&&◌, ◌∙◌}
-use Rattle.sets.specs.Sets.{both}
+use Rattle.sets.specs.Numbers.{both}
 use Rattle.board.specs.Wires.{live}
 use Rattle.board.specs.Wiring.{beneath, panel, wires}
 use Rattle.board.specs.Index.{among, leads_from, lands}

@@ -1,6 +1,6 @@
 use Rattle.std.proofs.Common.{◌≡◌, codes, sym, ap, arith}
 use Rattle.std.proofs.lemmas.Slice.Eq.{text_from_reads}
-use Rattle.book.specs.Heads.{head_of}
+use Rattle.book.specs.Head.{head_of}
 use Rattle.book.proofs.forms.HeadTryFromRefSliceU8.try_from.Goals as goal
 
 pub returns-in-piston : goal.returns-in-piston

@@ -1,6 +1,6 @@
 use Rattle.std.proofs.Common.{◌+◌, sym, refl, subst}
 use Rattle.std.proofs.lemmas.List.{take_rest}
-use Rattle.book.specs.Passages.{Comes}
+use Rattle.book.specs.Passage.{Comes}
 use Rattle.book.proofs.Course.{cut_first, cut_last}
 use Rattle.book.proofs.passage.Passage.take_line.Goals as goal
 

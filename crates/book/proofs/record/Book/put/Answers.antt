@@ -1,5 +1,5 @@
 use Rattle.std.proofs.Common.{not, sym, ap, ◌∙◌, subst}
-use Rattle.book.specs.Entries.{Entry, keys_of, pipes_of, knob_of, scope_of, wire_of, taken, InRange}
+use Rattle.book.specs.Entry.{Entry, keys_of, pipes_of, knob_of, scope_of, wire_of, taken, InRange}
 use Rattle.book.specs.Limits.{rows, knobs, pistons}
 use Rattle.book.proofs.Said.{more_table, full_or_free, divisions_stay, ranks_stay, knobs-stay, pistons-stay, wires-stay, wires-grow}
 use Rattle.book.proofs.record.Book.put.Goals as goal

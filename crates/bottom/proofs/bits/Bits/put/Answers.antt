@@ -1,6 +1,6 @@
 use Rattle.std.proofs.Common.{◌≡◌, ◌+◌, ◌∙◌, sym, ap, arith}
 use Rattle.chest.specs.Places.{changed}
-use Rattle.bottom.specs.Layout.{shown}
+use Rattle.bottom.specs.PipeTable.{shown}
 use Rattle.bottom.proofs.bits.Bits.put.Goals as goal
 use Rattle.bottom.proofs.Counted.{changed-le, one-less, one-more}
 use Rattle.chest.proofs.Calls.{put-still}

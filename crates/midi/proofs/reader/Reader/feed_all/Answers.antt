@@ -2,7 +2,7 @@
 use Rattle.std.proofs.Common.{◌≡◌, ◌+◌, ◌<◌, ◌≤◌, [], ◌++◌, length, get_or, take, vec_items, vec_len, vec_capacity, Option, sym, ap, ◌∙◌, subst, refl, append-nil, rules, arith}
 use Rattle.std.specs.Option.{option_to_list}
 use Rattle.std.proofs.lemmas.List.{take_all}
-use Rattle.midi.specs.Steps.{step, handed, state_after, Feeds}
+use Rattle.midi.specs.State.{step, handed, state_after, Feeds}
 use Rattle.midi.proofs.Lines.{handed-more, state_more, feeds_bytes, grown, catches_up}
 use Rattle.midi.proofs.States.{handed-range}
 use Rattle.midi.specs.declared.message.Message.{Message}

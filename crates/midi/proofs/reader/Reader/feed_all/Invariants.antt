@@ -1,5 +1,5 @@
 use Rattle.std.proofs.Common.{◌≡◌, ◌+◌, ◌-◌, ◌≤◌, ◌++◌, length, take, vec_items, vec_len, vec_capacity}
-use Rattle.midi.specs.Steps.{handed, state_after}
+use Rattle.midi.specs.State.{handed, state_after}
 use Rattle.midi.proofs.reader.Reader.feed_all.Given as goal
 
 -- the bytes so far were fed, and there is room for a message a byte for the others

@@ -1,7 +1,7 @@
 -- The organ is opened, and its reader is new.
 use Rattle.std.proofs.Common.{◌≡◌, Ok, sym, subst, rules}
-use Rattle.book.specs.Asking.{pipes_in}
-use Rattle.bottom.specs.Magnet.{magnet_meaning, MagnetSettled}
+use Rattle.book.specs.Book.{pipes_in}
+use Rattle.bottom.specs.MagnetChest.{magnet_meaning, MagnetSettled}
 use Rattle.organ.specs.Opening.{Opens, new_ranks}
 use Rattle.recital.specs.Described.{book_hung}
 use Rattle.recital.proofs.Portions.{begun}

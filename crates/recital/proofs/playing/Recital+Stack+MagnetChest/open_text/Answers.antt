@@ -1,8 +1,8 @@
 -- What is played is a service; else the line of the refused wire, or that of the fault.
 use Rattle.std.proofs.Common.{refl}
-use Rattle.book.specs.Asking.{pipes_in}
-use Rattle.bottom.specs.Magnet.{magnet_meaning, MagnetSettled}
-use Rattle.organ.specs.Listing.{line_bytes}
+use Rattle.book.specs.Book.{pipes_in}
+use Rattle.bottom.specs.MagnetChest.{magnet_meaning, MagnetSettled}
+use Rattle.organ.specs.Line.{line_bytes}
 use Rattle.organ.specs.Opening.{new_ranks}
 use Rattle.organ.specs.Refused.{fault_line, refusal_line}
 use Rattle.recital.specs.Described.{book_hung}

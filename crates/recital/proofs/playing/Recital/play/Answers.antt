@@ -1,7 +1,7 @@
 -- The answers for `play`: no byte yet, one more, and what the listing then has more.
 use Rattle.std.proofs.Common.{get_or, vec_items, subst, arith}
 use Rattle.std.proofs.lemmas.List.{take_more, take_all}
-use Rattle.recital.specs.Playing.{GoesOn}
+use Rattle.recital.specs.Recital.{GoesOn}
 use Rattle.recital.proofs.Bytes.{goes_none, goes_more}
 use Rattle.recital.proofs.Portions.{lists_on}
 use Rattle.recital.proofs.playing.Recital.play.Goals as goal

@@ -1,6 +1,6 @@
 -- So far the bytes before this one are played, and there is room for the lines of the others.
 use Rattle.std.proofs.Common.{◌+◌, ◌*◌, ◌≤◌, length, take, vec_items, vec_len, vec_capacity}
-use Rattle.recital.specs.Playing.{GoesOn}
+use Rattle.recital.specs.Recital.{GoesOn}
 use Rattle.recital.proofs.playing.Recital.play.Given as goal
 
 abbrev pub invariant-loop-byte : goal.invariant-loop-byte

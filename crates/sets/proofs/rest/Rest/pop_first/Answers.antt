@@ -1,8 +1,8 @@
 -- The low word first, and then the high one.
 use Rattle.std.proofs.Common.{◌≡◌, ◌+◌, ℕ, Some, None, Option, sym, ◌∙◌, subst}
 use Rattle.sets.specs.declared.word.Word.{Word}
-use Rattle.sets.specs.Sets.{PopsFirst}
-use Rattle.sets.specs.Members.{left_of, remaining}
+use Rattle.sets.specs.Numbers.{PopsFirst}
+use Rattle.sets.specs.NumberSet.{left_of, remaining}
 use Rattle.sets.proofs.Joined.{left_low, left_high, left_next, left_last, left_none}
 use Rattle.sets.proofs.rest.Rest.pop_first.Goals as goal
 

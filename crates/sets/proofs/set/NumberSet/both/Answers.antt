@@ -1,5 +1,5 @@
 use Rattle.std.proofs.Common.{◌∙◌}
-use Rattle.sets.specs.Sets.{bits_of}
+use Rattle.sets.specs.Numbers.{bits_of}
 use Rattle.sets.proofs.Joined.{joined, joined_both}
 use Rattle.sets.proofs.set.NumberSet.both.Goals as goal
 

@@ -1,5 +1,5 @@
 use Rattle.std.proofs.Common.{◌≡◌, ◌+◌, ◌-◌, ap, ◌∙◌, arith}
-use Rattle.sets.specs.Sets.{bits_of, with_number}
+use Rattle.sets.specs.Numbers.{bits_of, with_number}
 use Rattle.sets.proofs.Joined.{joined, joined_low, joined_high}
 use Rattle.sets.proofs.set.NumberSet.with.Goals as goal
 

@@ -1,7 +1,7 @@
 use Rattle.std.proofs.Common.{◌<◌, ◌*◌, ◌%◌, ◌^◌, w64, lit<, sym, ap, ◌∙◌, subst, arith}
 use Rattle.std.specs.Int.{bit_not}
 use Rattle.std.proofs.lemmas.Nat.{or_lt, and_le_l, mod_below}
-use Rattle.sets.specs.Sets.{bits_of, with_number}
+use Rattle.sets.specs.Numbers.{bits_of, with_number}
 use Rattle.sets.proofs.Bits.{bits_in, bits_out}
 use Rattle.sets.proofs.word.Word.put.Goals as goal
 use Rattle.sets.proofs.word.Word.put.Goals.{then-on, else-on}
