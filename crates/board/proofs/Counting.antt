@@ -5,7 +5,7 @@ use Rattle.std.proofs.lemmas.Bool.Decides.{nat_tests}
 use Rattle.chest.specs.Places.{total, put}
 use Rattle.chest.specs.Meaning.{knob_to}
 use Rattle.chest.proofs.Totals.{total-zero}
-use Rattle.board.specs.declared.wire.Lead.{Lead}
+use Rattle.board.specs.declared.lead.Lead.{Lead}
 use Rattle.board.specs.declared.wiring.Wiring.{Wiring}
 use Rattle.board.specs.declared.swing.Swing.{Swing}
 use Rattle.board.specs.Swing.{starts}
@@ -15,7 +15,7 @@ use Rattle.board.specs.Counts.{at_place, Fits, Moves, Room}
 use Rattle.board.proofs.Sums.{mixed, mixed_more, mixed-le, left_more}
 use Rattle.sets.specs.Numbers.{Numbers, nothing, PopsFirst}
 use Rattle.board.specs.Index.{blank, waits, waits_for}
-use Rattle.board.specs.declared.wire.Setting.{Setting}
+use Rattle.board.specs.declared.lead.Setting.{Setting}
 use Rattle.board.specs.declared.swing.Swing.TheVariants.{Starts, Stops}
 use Rattle.board.proofs.Ways.{Swung, through-one, through-put, through-swing, span-keys, leads-is}
 

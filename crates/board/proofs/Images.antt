@@ -6,7 +6,7 @@ use Rattle.std.proofs.lemmas.Bool.Decides.{nat_tests}
 use Rattle.chest.specs.Places.{Places, none}
 use Rattle.chest.specs.Meaning.{Panel}
 use Rattle.chest.proofs.Totals.{total-zero}
-use Rattle.board.specs.declared.wire.Lead.{Lead}
+use Rattle.board.specs.declared.lead.Lead.{Lead}
 use Rattle.board.specs.Wires.{Reaches, live, way, some, some_wire, image, span, through, ways_to}
 use Rattle.board.specs.Quiet.{image_of_free}
 use Rattle.board.proofs.Sums.{some-total}

@@ -7,11 +7,11 @@ use Rattle.std.proofs.lemmas.Bool.Decides.{nat_tests}
 use Rattle.sets.specs.declared.set.NumberSet.{NumberSet}
 use Rattle.sets.specs.Numbers.{with_number}
 use Rattle.sets.specs.NumberSet.{members, empty}
-use Rattle.board.specs.declared.wire.Lead.{Lead}
+use Rattle.board.specs.declared.lead.Lead.{Lead}
 use Rattle.chest.specs.Meaning.{Panel, knob_to}
 use Rattle.board.specs.Wires.{Reaches, live, stands, landing}
 use Rattle.board.specs.Wiring.{outlet}
-use Rattle.board.specs.declared.wire.Setting.{Setting}
+use Rattle.board.specs.declared.lead.Setting.{Setting}
 use Rattle.board.specs.Index.{leads_from, lands, waits, waits_for}
 
 -- a number is put into one set of a table, or taken out

@@ -6,8 +6,8 @@ use Rattle.std.proofs.lemmas.Bool.{and_parts, and_from, or_cases, leb-true, le-l
 use Rattle.std.proofs.lemmas.Bool.Decides.{nat_tests, Decides-by_or}
 use Rattle.chest.specs.Places.{Places, none}
 use Rattle.chest.specs.Meaning.{Panel}
-use Rattle.board.specs.declared.wire.Lead.{Lead}
-use Rattle.board.specs.declared.wire.Setting.{Setting}
+use Rattle.board.specs.declared.lead.Lead.{Lead}
+use Rattle.board.specs.declared.lead.Setting.{Setting}
 use Rattle.board.specs.Wires.{Reaches, live, stands, landing, is_at, leads, way, some, some_wire, image, through}
 use Rattle.board.specs.Fitting.{in_range, raised}
 use Rattle.board.specs.Laws.{Reached, either, ImageLaw}

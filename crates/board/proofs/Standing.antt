@@ -7,7 +7,7 @@ use Rattle.chest.proofs.Calls.{set-done}
 use Rattle.chest.specs.declared.reaches.Reaches.{Reaches as Kept}
 use Rattle.chest.specs.Reaches.{reaches_of}
 use Rattle.board.specs.declared.below.Below.{Below}
-use Rattle.board.specs.declared.wire.Lead.{Lead}
+use Rattle.board.specs.declared.lead.Lead.{Lead}
 use Rattle.board.specs.Wires.{Reaches, way, ways_to}
 use Rattle.board.specs.Layout.{Layout, image_of}
 use Rattle.board.specs.Counts.{at_place, Exact, Moves, one_at}

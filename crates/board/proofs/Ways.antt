@@ -7,8 +7,8 @@ use Rattle.std.proofs.lemmas.Bool.Decides.{nat_tests}
 use Rattle.chest.specs.Places.{Places, total, put}
 use Rattle.chest.proofs.Totals.{total_ext}
 use Rattle.chest.specs.Meaning.{Panel, knob_to}
-use Rattle.board.specs.declared.wire.Lead.{Lead}
-use Rattle.board.specs.declared.wire.Setting.{Setting}
+use Rattle.board.specs.declared.lead.Lead.{Lead}
+use Rattle.board.specs.declared.lead.Setting.{Setting}
 use Rattle.board.specs.Wires.{Reaches, live, stands, landing, is_at, leads, way, span, through}
 use Rattle.board.specs.declared.swing.Swing.{Swing}
 use Rattle.board.specs.declared.swing.Swing.TheVariants.{Starts, Stops}

@@ -4,8 +4,8 @@ use Rattle.chest.specs.declared.fault.ChestFault.TheVariants.{Row}
 use Rattle.chest.specs.Places.{Places}
 use Rattle.chest.specs.Meaning.{Meaning}
 use Rattle.fittings.specs.declared.Wire.{Wire}
-use Rattle.board.specs.declared.wire.Lead.{Lead}
-use Rattle.board.specs.declared.wire.Setting.{Setting}
+use Rattle.board.specs.declared.lead.Lead.{Lead}
+use Rattle.board.specs.declared.lead.Setting.{Setting}
 use Rattle.board.specs.declared.fault.BoardFault.{BoardFault}
 use Rattle.board.specs.declared.fault.RowRefused.{RowRefused}
 use Rattle.board.specs.declared.fault.BoardFault.TheVariants.{Held, Full, Keys, ToRow, NoPlaces, Shift, Knob, Position}

@@ -1,8 +1,8 @@
 -- Which wires of a list do something, by their numbers in it. Assumes nothing.
 use Rattle.std.specs.Prelude.{ℕ, Bool, false, ◌&&◌, List, map, Some, None, Option, is_some, ◌==◌, nat_le, slice_index_or}
 use Rattle.sets.specs.Numbers.{Numbers}
-use Rattle.board.specs.declared.wire.Lead.{Lead}
-use Rattle.board.specs.declared.wire.Setting.{Setting}
+use Rattle.board.specs.declared.lead.Lead.{Lead}
+use Rattle.board.specs.declared.lead.Setting.{Setting}
 use Rattle.board.specs.Wires.{Reaches, landing}
 
 -- the numbers of the wires of which something is true

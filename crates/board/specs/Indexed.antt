@@ -2,8 +2,8 @@
 use Rattle.std.specs.Prelude.{ℕ, slice_index_or}
 use Rattle.sets.specs.Numbers.{Numbers}
 use Rattle.sets.specs.NumberSet.{members, empty}
-use Rattle.board.specs.declared.index.Outlets.{Outlets}
-use Rattle.board.specs.declared.index.Waiting.{Waiting}
+use Rattle.board.specs.declared.outlets.Outlets.{Outlets}
+use Rattle.board.specs.declared.waiting.Waiting.{Waiting}
 
 abbrev pub row_of : Outlets → ℕ → Numbers
 row_of t r = members (slice_index_or t.rows r empty)

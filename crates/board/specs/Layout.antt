@@ -2,7 +2,7 @@
 use Rattle.std.specs.Prelude.{ℕ, Bool, List, [], ◌∷◌, ◌++◌}
 use Rattle.chest.specs.Places.{Places, put}
 use Rattle.chest.specs.Meaning.{Panel, knob_to}
-use Rattle.board.specs.declared.wire.Lead.{Lead}
+use Rattle.board.specs.declared.lead.Lead.{Lead}
 use Rattle.board.specs.declared.wiring.Wiring.{Wiring}
 use Rattle.board.specs.Wires.{Reaches, image, ways_to}
 use Rattle.board.specs.Wiring as wiring

@@ -22,7 +22,3 @@ module _ {C : Type 0} (meaning : C → Meaning) where
 
   abbrev pub Settled : (C → Type 0) → RelayBoard C → Type 0
   Settled settled s = settled s.below.chest × Stands (layout s.wiring) (meaning s.below.chest)
-
-  -- from a settled board to a settled board that means this
-  abbrev pub Becomes : (C → Type 0) → RelayBoard C → RelayBoard C → Meaning → Type 0
-  Becomes settled s t m = Settled settled s → Settled settled t × (meaning_of t ≡ m)

@@ -2,8 +2,8 @@
 use Rattle.std.specs.Prelude.{ℕ, zero, suc, ◌+◌, ◌-◌, Bool, true, false, cond, ◌&&◌, ◌||◌, List, [], ◌∷◌, Some, None, sum_by, Option, ◌==◌, nat_le, nat_lt}
 use Rattle.chest.specs.Places.{Places, total}
 use Rattle.chest.specs.Meaning.{Panel}
-use Rattle.board.specs.declared.wire.Lead.{Lead}
-use Rattle.board.specs.declared.wire.Setting.{Setting}
+use Rattle.board.specs.declared.lead.Lead.{Lead}
+use Rattle.board.specs.declared.lead.Setting.{Setting}
 
 -- how many places each row has
 abbrev pub Reaches : Type 0

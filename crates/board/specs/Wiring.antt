@@ -5,8 +5,8 @@ use Rattle.sets.specs.NumberSet.{members, empty}
 use Rattle.chest.specs.Places.{Places}
 use Rattle.chest.specs.Meaning.{Panel}
 use Rattle.chest.specs.declared.place.Place.{Place}
-use Rattle.board.specs.declared.wire.Lead.{Lead}
-use Rattle.board.specs.declared.wire.Setting.{Setting}
+use Rattle.board.specs.declared.lead.Lead.{Lead}
+use Rattle.board.specs.declared.lead.Setting.{Setting}
 use Rattle.board.specs.declared.wiring.Wiring.{Wiring}
 use Rattle.chest.specs.Positions.{positions_of}
 use Rattle.chest.specs.Reaches.{reaches_of}

@@ -6,9 +6,9 @@ ghost use Rattle.board.specs.Layout.{layout, with_key, with_knob};
 ghost use Rattle.board.specs.Swing.{starts};
 ghost use Rattle.board.specs.Counts.{at_place, Exact, Fits, Moves, Room, one_at};
 
-use crate::reads::Turn;
+use crate::lead::Lead;
 use crate::swing::Swing;
-use crate::wire::Lead;
+use crate::turn::Turn;
 use crate::wiring::{ALL_PLACES, Wiring};
 use chest::chest::Chest;
 use chest::place::Place;

@@ -3,13 +3,11 @@
 
 mod below;
 pub mod board;
-mod changes;
 pub mod fault;
-mod fitting;
-mod index;
 pub mod laws;
-mod making;
-mod reads;
+mod lead;
+mod outlets;
 mod swing;
-pub mod wire;
+mod turn;
+mod waiting;
 mod wiring;

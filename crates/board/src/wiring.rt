@@ -7,12 +7,16 @@ ghost use Rattle.board.specs.Wires.{live};
 ghost use Rattle.board.specs.Index.{among, leads_from, lands, waits};
 ghost use Rattle.board.specs.Indexed.{row_of, key_of, waiting_of};
 
-use crate::index::{Outlets, Waiting};
-use crate::wire::Lead;
+use crate::lead::Lead;
+use crate::outlets::Outlets;
+use crate::waiting::Waiting;
 use arrayvec::ArrayVec;
 use chest::chest::{PLACES, ROWS};
+use chest::place::Place;
 use chest::positions::Positions;
 use chest::reaches::Reaches;
+use chest::setting::Setting;
+use fittings::SHIFTS;
 use sets::NumberSet;
 
 // How many wires a board takes.
@@ -43,4 +47,134 @@ pub(crate) struct Wiring {
     ghost leading: { (r : ℕ) → r < 16 → row_of outlets r ≡ among (leads_from r) leads.items },
     ghost landing: { (p : ℕ) → p < 128 → key_of outlets p ≡ among (lands (reaches_of below) p) leads.items },
     ghost waits: { (k : ℕ) → k < 64 → waiting_of waiting k ≡ among (waits k) leads.items },
+}
+
+impl Wiring {
+    ghost use Rattle.std.specs.Prelude.{is_some, Some};
+    ghost use Rattle.chest.specs.Meaning.{knob_to};
+    ghost use Rattle.board.specs.Fitting.{is_free};
+    ghost use Rattle.board.specs.Index.{blank};
+    ghost use Rattle.board.specs.Layout.{layout, with_key, with_knob, with_wire};
+    ghost use Rattle.board.specs.Making.{bare};
+    ghost use Rattle.board.specs.Wires.{some};
+    ghost use Rattle.board.specs.Wiring.{beneath, register, panel, wires, outlet, spot};
+
+    // No wire and no key.
+    pub(crate) fn bare(reaches: [u8; ROWS], below: Reaches, positions: Positions) -> Wiring
+        ensures { layout result ≡ bare reaches (reaches_of below) (positions_of positions) }
+    {
+        Wiring {
+            reaches: Reaches::new(reaches),
+            below,
+            keys: [NumberSet::none(); ROWS],
+            positions,
+            leads: ArrayVec::new(),
+            live: NumberSet::none(),
+            outlets: Outlets::none(),
+            waiting: Waiting::none(),
+        }
+    }
+
+    // Whether a key is set.
+    pub(crate) fn is_set(&self, row: usize, key: usize) -> bool
+        ensures { result ≡ register self.now row key }
+    {
+        self.row(row).has(key)
+    }
+
+    // The keys of a row that are set.
+    pub(crate) fn row(&self, row: usize) -> NumberSet
+        ensures { members result ≡ register self.now row }
+    {
+        if row < ROWS {
+            self.keys[row]
+        } else {
+            NumberSet::none()
+        }
+    }
+
+    pub(crate) fn position(&self, knob: usize) -> usize
+        ensures { result ≡ panel self.now knob }
+    {
+        self.positions.of(knob)
+    }
+
+    // A wire by its number.
+    pub(crate) fn lead(&self, number: usize) -> Lead
+        requires { number < length (wires self.now) }
+        ensures { result ≡ slice_index_or (wires self.now) number blank }
+    {
+        self.leads[number]
+    }
+
+    // Where a key leads through a wire that leads somewhere from it.
+    pub(crate) fn outlet(&self, w: Lead, key: Place) -> Place
+        requires { is_some (outlet (beneath self.now) (panel self.now) w key.row key.place) ≡ true }
+        ensures { outlet (beneath self.now) (panel self.now) w key.row key.place ≡ Some (spot result) }
+    {
+        Place {
+            row: usize::from(w.to),
+            place: key.place + usize::from(w.raise) - usize::from(SHIFTS),
+        }
+    }
+
+    // The live wires that lead somewhere from a key.
+    pub(crate) fn wires_from(&self, key: Place) -> NumberSet
+        ensures { members result ≡ among (λ w. is_some (outlet (beneath self.now) (panel self.now) w key.row key.place)) (wires self.now) }
+    {
+        self.outlets.of(key).both(self.live)
+    }
+
+    // The wires that are live once a knob is turned.
+    pub(crate) fn live_after(&self, to: Setting) -> NumberSet
+        ensures { members result ≡ among (live (knob_to (panel self.now) to.knob to.position)) (wires self.now) }
+    {
+        let mut positions = self.positions;
+        positions.turn(to);
+        let mut live = self.live;
+        let mut rest = self.waiting.of(to.knob).rest();
+        while let Some(number) = rest.pop_first() {
+            live = live.with(number, self.lead(number).is_live(&positions));
+        }
+        live
+    }
+
+    // Whether some place of a row is set.
+    fn has_key(&self, row: usize) -> bool
+        ensures { result ≡ some 128 (register self.now row) }
+    {
+        (0..self.reaches.of(row)).any(|key| self.is_set(row, key))
+    }
+
+    // Whether no place is set.
+    pub(crate) fn is_free(&self) -> bool
+        ensures { result ≡ is_free (register self.now) }
+    {
+        !(0..ROWS).any(|row| self.has_key(row))
+    }
+
+    pub(crate) fn put(&mut self, at: Place, on: bool)
+        requires { at.place < (layout self.old).reach at.row }
+        ensures { layout self.new ≡ with_key (layout self.old) at.row at.place on }
+    {
+        self.keys[at.row] = self.keys[at.row].with(at.place, on);
+    }
+
+    pub(crate) fn turn(&mut self, to: Setting)
+        ensures { layout self.new ≡ with_knob (layout self.old) to.knob to.position }
+    {
+        self.live = self.live_after(to);
+        self.positions.turn(to);
+    }
+
+    pub(crate) fn add(&mut self, lead: Lead)
+        requires { length (layout self.old).wires < 128 }
+        ensures { layout self.new ≡ with_wire (layout self.old) lead }
+    {
+        let number = self.leads.len();
+        self.live = self.live.with(number, lead.is_live(&self.positions));
+        self.outlets.add(number, lead, &self.below);
+        self.waiting.add(number, lead);
+        self.leads.push(lead);
+    }
 }

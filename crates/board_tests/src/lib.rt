@@ -3,7 +3,7 @@
 
 use board::board::RelayBoard;
 use board::fault::BoardFault;
-use board::wire::Wire;
+use fittings::Wire;
 use bottom::magnet_chest::MagnetChest;
 use bottom::midi_chest::MidiChest;
 use chest::chest::Chest;

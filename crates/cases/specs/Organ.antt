@@ -5,7 +5,7 @@ use Rattle.book.specs.declared.forms.Board.{Board}
 use Rattle.book.specs.declared.forms.Board.TheVariants.{Coupler, Stop}
 use Rattle.book.specs.declared.record.BookWire.{BookWire}
 use Rattle.fittings.specs.declared.Wire.{Wire}
-use Rattle.board.specs.declared.wire.Lead.{Lead}
+use Rattle.board.specs.declared.lead.Lead.{Lead}
 use Rattle.board.specs.Wires.{Reaches}
 use Rattle.board.specs.Fitting.{lead_of}
 use Rattle.console.specs.Model.{Setup}

@@ -7,7 +7,7 @@ use Rattle.book.specs.declared.forms.Board.TheVariants.{Coupler, Stop}
 use Rattle.book.specs.declared.record.BookWire.{BookWire}
 use Rattle.board.specs.declared.board.RelayBoard.{RelayBoard}
 use Rattle.board.specs.declared.fault.BoardFault.{BoardFault}
-use Rattle.board.specs.declared.wire.Lead.{Lead}
+use Rattle.board.specs.declared.lead.Lead.{Lead}
 use Rattle.chest.specs.Reaches.{reach_of}
 use Rattle.board.specs.Wires.{Reaches}
 use Rattle.board.specs.Layout.{Layout, layout, with_wire}

@@ -8,7 +8,7 @@ use Rattle.book.specs.declared.record.BookWire.{BookWire}
 use Rattle.book.specs.Book.{same_board}
 use Rattle.board.specs.declared.board.RelayBoard.{RelayBoard}
 use Rattle.board.specs.declared.fault.BoardFault.{BoardFault}
-use Rattle.board.specs.declared.wire.Lead.{Lead}
+use Rattle.board.specs.declared.lead.Lead.{Lead}
 use Rattle.board.specs.Wires.{Reaches, image}
 use Rattle.board.specs.Layout.{Layout, with_wire}
 use Rattle.board.specs.RelayBoard.{board_meaning, meaning_of, Settled}

@@ -1,7 +1,7 @@
 -- Each wire that leads somewhere from the key is walked once.
 use Rattle.std.proofs.Common.{◌≡◌, get_or, is_some, Some, sym, ap, ◌∙◌, subst}
 use Rattle.sets.specs.NumberSet.{remaining}
-use Rattle.board.specs.declared.wire.Lead.{Lead}
+use Rattle.board.specs.declared.lead.Lead.{Lead}
 use Rattle.board.specs.Wiring.{beneath, panel, wires, outlet, spot}
 use Rattle.board.specs.Swing.{starts}
 use Rattle.board.specs.Counts.{at_place}

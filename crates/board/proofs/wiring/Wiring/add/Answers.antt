@@ -4,7 +4,7 @@ use Rattle.std.proofs.lemmas.Bool.{eqb-true}
 use Rattle.std.proofs.lemmas.List.{length-append}
 use Rattle.chest.specs.Positions.{positions_of}
 use Rattle.sets.specs.Numbers.{Numbers, with_number}
-use Rattle.board.specs.declared.wire.Lead.{Lead}
+use Rattle.board.specs.declared.lead.Lead.{Lead}
 use Rattle.board.specs.Wires.{live}
 use Rattle.board.specs.Wiring.{wires, beneath}
 use Rattle.board.specs.Index.{among, leads_from, lands, waits}

@@ -5,7 +5,7 @@ use Rattle.std.proofs.lemmas.Bool.Decides.{nat_tests}
 use Rattle.chest.specs.Meaning.{Panel, knob_to}
 use Rattle.chest.specs.Positions.{positions_of}
 use Rattle.sets.specs.Numbers.{Numbers, with_number, PopsFirst}
-use Rattle.board.specs.declared.wire.Lead.{Lead}
+use Rattle.board.specs.declared.lead.Lead.{Lead}
 use Rattle.board.proofs.Indexes.{live_same}
 use Rattle.sets.specs.NumberSet.{members, remaining}
 use Rattle.board.specs.Wires.{live}

@@ -4,7 +4,7 @@ use Rattle.std.proofs.lemmas.Bool.Decides.{nat_tests}
 use Rattle.board.specs.Index.{waits, waits_for}
 use Rattle.board.specs.Indexed.{waiting_of}
 use Rattle.board.proofs.Indexes.{table_put, either_way}
-use Rattle.board.proofs.index.Waiting.add.Goals as goal
+use Rattle.board.proofs.waiting.Waiting.add.Goals as goal
 
 pub returns-then-knob-lt-KNOBS : goal.returns-then-knob-lt-KNOBS
 returns-then-knob-lt-KNOBS c = λ k i hk.

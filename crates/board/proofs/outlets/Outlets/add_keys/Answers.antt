@@ -4,8 +4,8 @@ use Rattle.chest.specs.Reaches.{reaches_of}
 use Rattle.board.specs.Index.{lands}
 use Rattle.board.specs.Indexed.{key_of}
 use Rattle.board.proofs.Indexes.{table_put, lands_is, is_some_map, by_key, by_no_key}
-use Rattle.board.proofs.index.Outlets.add_keys.Goals as goal
-use Rattle.board.proofs.index.Outlets.add_keys.Goals.{then-is_some, else-is_some}
+use Rattle.board.proofs.outlets.Outlets.add_keys.Goals as goal
+use Rattle.board.proofs.outlets.Outlets.add_keys.Goals.{then-is_some, else-is_some}
 
 pub loop-key-preserved : goal.loop-key-preserved
 loop-key-preserved c =

@@ -3,7 +3,7 @@ use Rattle.std.proofs.Common.{◌≡◌, ℕ, ◌<◌, true, cond, ◌&&◌, eqb
 use Rattle.chest.specs.Reaches.{reaches_of}
 use Rattle.board.specs.Index.{lands}
 use Rattle.board.specs.Indexed.{key_of}
-use Rattle.board.proofs.index.Outlets.add_keys.Given as goal
+use Rattle.board.proofs.outlets.Outlets.add_keys.Given as goal
 
 abbrev pub invariant-loop-key : goal.invariant-loop-key
 invariant-loop-key l =

@@ -1,13 +1,12 @@
-//! Which wires a board has to look at: those that lead somewhere from a key, and those that wait for a knob. So it walks no
-//! wire that a call does not touch.
+//! Which wires lead somewhere from a key, so that a board walks no wire that a key does not touch.
 ghost use Rattle.std.specs.Prelude.{◌≡◌, ℕ, ◌<◌, ◌==◌, cond, ◌&&◌, true, length};
 ghost use Rattle.sets.specs.Numbers.{nothing, both};
 ghost use Rattle.sets.specs.NumberSet.{members};
 ghost use Rattle.chest.specs.Reaches.{reaches_of};
 ghost use Rattle.board.specs.Index.{leads_from, lands, waits};
 
-use crate::wire::Lead;
-use chest::chest::{KNOBS, PLACES, ROWS};
+use crate::lead::Lead;
+use chest::chest::{PLACES, ROWS};
 use chest::place::Place;
 use chest::reaches::Reaches;
 use sets::NumberSet;
@@ -64,46 +63,6 @@ impl Outlets {
             if w.lands(below, key).is_some() {
                 self.keys[key] = self.keys[key].with(number, true);
             }
-        }
-    }
-}
-
-// By knob, the numbers of the wires that wait for it.
-#[derive(Clone, Copy)]
-pub(crate) struct Waiting {
-    pub table: [NumberSet; KNOBS],
-    ghost manual: { length table ≡ 64 },
-}
-
-impl Waiting {
-    ghost use Rattle.board.specs.Indexed.{waiting_of};
-
-    pub(crate) fn none() -> Waiting
-        ensures { (k : ℕ) → waiting_of result k ≡ nothing }
-    {
-        Waiting {
-            table: [NumberSet::none(); KNOBS],
-        }
-    }
-
-    pub(crate) fn of(&self, knob: usize) -> NumberSet
-        requires { knob < 64 }
-        ensures { members result ≡ waiting_of self.now knob }
-    {
-        self.table[knob]
-    }
-
-    // Adds a wire by its number.
-    pub(crate) fn add(&mut self, number: usize, w: Lead)
-        requires { number < 128 }
-        ensures { (k i : ℕ) → k < 64 → waiting_of self.new k i ≡ cond (i == number && waits k w) true (waiting_of self.old k i) }
-    {
-        let Some(setting) = w.setting else {
-            return;
-        };
-        let knob = usize::from(setting.knob);
-        if knob < KNOBS {
-            self.table[knob] = self.table[knob].with(number, true);
         }
     }
 }

@@ -4,7 +4,7 @@ use Rattle.sets.specs.NumberSet.{members, empty}
 use Rattle.board.specs.Index.{leads_from}
 use Rattle.board.specs.Indexed.{row_of}
 use Rattle.board.proofs.Indexes.{table_put, either_way}
-use Rattle.board.proofs.index.Outlets.add.Goals as goal
+use Rattle.board.proofs.outlets.Outlets.add.Goals as goal
 
 pub returns-then-row-lt-ROWS-clause-rows : goal.returns-then-row-lt-ROWS-clause-rows
 returns-then-row-lt-ROWS-clause-rows c = λ r i hr.
