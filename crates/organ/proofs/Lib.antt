@@ -1,3 +1,5 @@
+mod Passes
+mod Fitters
 mod Runs
 mod Stacks
 mod Filling

@@ -9,7 +9,7 @@ use Rattle.board.specs.Wires.{Reaches}
 use Rattle.board.specs.Layout.{Layout, with_wire}
 use Rattle.board.specs.Fitting.{fit_answer, lead_of}
 use Rattle.book.specs.Book.{same_board}
-use Rattle.organ.specs.Assembly.{unless_refused, fit_run}
+use Rattle.organ.specs.Pass.{unless_stopped, fit_run}
 
 -- what a list of wires is read at past its end
 abbrev pub blank : BookWire
@@ -27,26 +27,26 @@ module _ (on : Board) (m : Meaning) (l : Layout) (ws : List BookWire) (n : ℕ) 
   abbrev next : Layout
   next = with_wire l (lead_of here.wire)
 
-  step : (b : Bool) → same_board on here.board ≡ b → fit_run on m l (drop n ws) ≡ cond b (unless_refused (fit_answer l m here.wire) here.line (fit_run on m next rest)) (fit_run on m l rest)
+  step : (b : Bool) → same_board on here.board ≡ b → fit_run on m l n (drop n ws) ≡ cond b (unless_stopped (fit_answer l m here.wire) n here.line (fit_run on m next (n + 1) rest)) (fit_run on m l (n + 1) rest)
   step b e =
-      ap (fit_run on m l) (drop_more ws n blank h)
-      ∙ ap (λ x. cond x (unless_refused (fit_answer l m here.wire) here.line (fit_run on m next rest)) (fit_run on m l rest)) e
+      ap (fit_run on m l n) (drop_more ws n blank h)
+      ∙ ap (λ x. cond x (unless_stopped (fit_answer l m here.wire) n here.line (fit_run on m next (n + 1) rest)) (fit_run on m l (n + 1) rest)) e
 
-  pub skip_here : same_board on here.board ≡ false → fit_run on m l (drop n ws) ≡ fit_run on m l rest
+  pub skip_here : same_board on here.board ≡ false → fit_run on m l n (drop n ws) ≡ fit_run on m l (n + 1) rest
   skip_here e = step false e
 
-  pub fit_here : (l' : Layout) → same_board on here.board ≡ true → fit_answer l m here.wire ≡ Ok tt → l' ≡ with_wire l (lead_of here.wire) → fit_run on m l (drop n ws) ≡ fit_run on m l' rest
+  pub fit_here : (l' : Layout) → same_board on here.board ≡ true → fit_answer l m here.wire ≡ Ok tt → l' ≡ with_wire l (lead_of here.wire) → fit_run on m l n (drop n ws) ≡ fit_run on m l' (n + 1) rest
   fit_here l' e a is =
-      step true e ∙ ap (λ x. unless_refused x here.line (fit_run on m next rest)) a ∙ ap (λ x. fit_run on m x rest) (sym is)
+      step true e ∙ ap (λ x. unless_stopped x n here.line (fit_run on m next (n + 1) rest)) a ∙ ap (λ x. fit_run on m x (n + 1) rest) (sym is)
 
 -- of the chest below only its reaches matter
 with_reach : Meaning → Reaches → Meaning
 with_reach m reach =
     record { reach = reach; register = m.register; panel = m.panel; speaking = m.speaking; strobes = m.strobes; rule = m.rule }
 
-pub run_reach : (on : Board) (m n : Meaning) → m.reach ≡ n.reach → (l : Layout) (ws : List BookWire) → fit_run on m l ws ≡ fit_run on n l ws
+pub run_reach : (on : Board) (m n : Meaning) → m.reach ≡ n.reach → (l : Layout) (k : ℕ) (ws : List BookWire) → fit_run on m l k ws ≡ fit_run on n l k ws
 unfolding with_reach
-run_reach on m n e l [] = refl
-run_reach on m n e l (w ∷ ws) =
+run_reach on m n e l k [] = refl
+run_reach on m n e l k (w ∷ ws) =
     let answer : fit_answer l m w.wire ≡ fit_answer l n w.wire = λ i. fit_answer l (with_reach m (e i)) w.wire in
-    λ i. cond (same_board on w.board) (unless_refused (answer i) w.line (run_reach on m n e (with_wire l (lead_of w.wire)) ws i)) (run_reach on m n e l ws i)
+    λ i. cond (same_board on w.board) (unless_stopped (answer i) k w.line (run_reach on m n e (with_wire l (lead_of w.wire)) (k + 1) ws i)) (run_reach on m n e l (k + 1) ws i)

@@ -1,6 +1,8 @@
 pub mod Action
 pub mod Line
 pub mod Assembly
+pub mod Fitter
+pub mod Pass
 pub mod Tables
 pub mod Opening
 pub mod Responses

@@ -4,7 +4,9 @@ ghost use Rattle.board.specs.RelayBoard.{Settled};
 ghost use Rattle.board.specs.Layout.{layout};
 ghost use Rattle.chest.specs.Reaches.{reach_of};
 ghost use Rattle.book.specs.Book.{keys_in};
-ghost use Rattle.organ.specs.Assembly.{refusal_number, earlier_of, fit_run, hang_all, Assembles};
+ghost use Rattle.organ.specs.Assembly.{refusal_number, hang_all, Assembles};
+ghost use Rattle.organ.specs.Fitter.{FittedInOrder};
+ghost use Rattle.organ.specs.Pass.{fit_run, earlier_of};
 
 use board::board::RelayBoard;
 use board::fault::BoardFault;
@@ -31,36 +33,47 @@ impl Refusal {
     }
 }
 
+// The first wire that a board refuses, with its number among the wires of the book.
+#[derive(Clone, Copy, Debug, PartialEq)]
+struct Stopped {
+    number: usize,
+    refusal: Refusal,
+}
+
 // Fits those wires of a list that are for this board, until one is refused.
 fn fit_all<C: Chest>(
     board: &mut RelayBoard<C>,
     wires: &[BookWire],
     on: Board,
-) -> Result<(), Refusal>
-    ensures cases { MatchResult result (λ _. fit_run on (C.Chest.meaning board.old.below.chest) (layout board.old.wiring) wires.now ≡ Ok (layout board.new.wiring)) (λ e. fit_run on (C.Chest.meaning board.old.below.chest) (layout board.old.wiring) wires.now ≡ Err e) }
+) -> Result<(), Stopped>
+    ensures cases { MatchResult result (λ _. fit_run on (C.Chest.meaning board.old.below.chest) (layout board.old.wiring) 0 wires.now ≡ Ok (layout board.new.wiring)) (λ e. fit_run on (C.Chest.meaning board.old.below.chest) (layout board.old.wiring) 0 wires.now ≡ Err e) }
     ensures reach { (layout board.new.wiring).reach ≡ (layout board.old.wiring).reach }
     ensures below { board.new.below ≡ board.old.below }
     ensures settled { Settled C.Chest.meaning C.Chest.settled board.old → Settled C.Chest.meaning C.Chest.settled board.new }
 {
-    for wire in wires {
+    for (number, wire) in wires.iter().enumerate() {
         if wire.board == on {
-            board.fit(wire.wire).map_err(|fault| Refusal {
-                line: wire.line,
-                fault,
+            board.fit(wire.wire).map_err(|fault| Stopped {
+                number,
+                refusal: Refusal {
+                    line: wire.line,
+                    fault,
+                },
             })?;
         }
     }
     Ok(())
 }
 
-// The refusal on the earlier line, if there is one.
-fn earlier(coupler: Result<(), Refusal>, stop: Result<(), Refusal>) -> Result<(), Refusal>
+// The refusal of the earlier wire, if there is one.
+fn earlier(coupler: Result<(), Stopped>, stop: Result<(), Stopped>) -> Result<(), Refusal>
     ensures { result ≡ earlier_of coupler stop }
 {
-    match (coupler, stop) {
-        (Err(e), Err(f)) => Err(if e.line < f.line { e } else { f }),
+    let stopped = match (coupler, stop) {
+        (Err(e), Err(f)) => Err(if e.number < f.number { e } else { f }),
         (coupler, stop) => coupler.and(stop),
-    }
+    };
+    stopped.map_err(|s| s.refusal)
 }
 
 // The stack with these reaches and wires over a bottom chest, or the first wire that its board refuses.
@@ -81,7 +94,8 @@ fn hang<C: Chest + Drop>(
 
 /// The stack of a book over a bottom chest, or the first wire that its board refuses.
 pub fn assemble<C: Chest + Drop>(book: &Book, bottom: C) -> Result<Stack<C>, Refusal>
-    ensures { C.Chest.settled bottom → Assembles C.Chest.meaning C.Chest.settled (keys_in book.now) (C.Chest.meaning bottom) (hang_all (keys_in book.now) (C.Chest.meaning bottom) book.now.wires.items) result }
+    ensures law { C.Chest.settled bottom → FittedInOrder (keys_in book.now) (C.Chest.meaning bottom) C.Chest.meaning book.now.wires.items result }
+    ensures cases { C.Chest.settled bottom → Assembles C.Chest.meaning C.Chest.settled (keys_in book.now) (C.Chest.meaning bottom) (hang_all (keys_in book.now) (C.Chest.meaning bottom) book.now.wires.items) result }
 {
     let reaches = array::from_fn(|division| book.keys(division));
     hang(reaches, book.wires(), bottom)

@@ -8,7 +8,7 @@ use Rattle.book.specs.Book.{same_board}
 use Rattle.board.specs.RelayBoard.{Settled}
 use Rattle.board.specs.Layout.{layout, with_wire}
 use Rattle.board.specs.Fitting.{fit_answer, lead_of}
-use Rattle.organ.specs.Assembly.{fit_run}
+use Rattle.organ.specs.Pass.{fit_run}
 use Rattle.organ.proofs.Runs.{blank, skip_here, fit_here}
 use Rattle.organ.proofs.assembly.fit_all.Goals as goal
 use Rattle.organ.proofs.assembly.fit_all.Goals.{then-eq+in_ok-map_err, else-eq}
@@ -19,16 +19,16 @@ same_is Coupler Stop = refl
 same_is Stop Coupler = refl
 same_is Stop Stop = refl
 
-pub loop-wire-preserved : goal.loop-wire-preserved
-loop-wire-preserved g c =
+pub loop-number-preserved : goal.loop-number-preserved
+loop-number-preserved g c =
     let meaning = g.C.Chest.meaning in
     let settled = g.C.Chest.settled in
     let m = meaning c.args.board.now.below.chest in
     let on = c.args.on in
     let ws = c.args.wires.now in
-    let i = c.loop-wire.wire-index in
-    let inv = c.loop-wire.invariant in
-    let l = layout c.loop-wire.board.wiring in
+    let i = c.loop-number.number-counter in
+    let inv = c.loop-number.invariant in
+    let l = layout c.loop-number.board.wiring in
     let next = layout c.if-eq.board.wiring in
     let here = get_or ws i blank in
     let is = sym (same_is here.board on) ∙ sym c.eq.ensures in
@@ -36,16 +36,16 @@ loop-wire-preserved g c =
       | then-eq+in_ok-map_err w ↦
           let fine : w.fit.result ≡ Ok tt = search rules in
           let answer = sym fine ∙ w.fit.ensures.answer ∙ (λ j. fit_answer l (meaning (inv.2 j).chest) here.wire) in
-          let items = subst (λ r. OnOk r ((w.fit.new.self.below ≡ c.loop-wire.board.below) × (layout w.fit.new.self.wiring ≡ with_wire l (lead_of here.wire)))) fine w.fit.ensures.items in
+          let items = subst (λ r. OnOk r ((w.fit.new.self.below ≡ c.loop-number.board.below) × (layout w.fit.new.self.wiring ≡ with_wire l (lead_of here.wire)))) fine w.fit.ensures.items in
           let added = ap (λ b. layout b.wiring) w.board-is ∙ items.1 in (
-            inv.0 ∙ fit_here on m l ws i c.loop-wire-test.true next (is ∙ w.if-eq.true) (sym answer) added,
+            inv.0 ∙ fit_here on m l ws i c.loop-number-test.true next (is ∙ w.if-eq.true) (sym answer) added,
             ap (λ x. x.reach) added ∙ inv.1,
             ap (λ b. b.below) w.board-is ∙ items.0 ∙ inv.2,
             λ start.
                 subst (Settled meaning settled) (sym w.board-is) (w.fit.ensures.after (inv.3 start)).0,
           )
       | else-eq w ↦ (
-        inv.0 ∙ skip_here on m l ws i c.loop-wire-test.true (is ∙ w.if-eq.false) ∙ ap (λ b. fit_run on m (layout b.wiring) (drop (i + 1) ws)) (sym w.board-is),
+        inv.0 ∙ skip_here on m l ws i c.loop-number-test.true (is ∙ w.if-eq.false) ∙ ap (λ b. fit_run on m (layout b.wiring) (i + 1) (drop (i + 1) ws)) (sym w.board-is),
         ap (λ b. (layout b.wiring).reach) w.board-is ∙ inv.1,
         ap (λ b. b.below) w.board-is ∙ inv.2,
         λ start.

@@ -2,14 +2,14 @@
 use Rattle.std.proofs.Common.{◌≡◌, drop}
 use Rattle.board.specs.RelayBoard.{Settled}
 use Rattle.board.specs.Layout.{layout}
-use Rattle.organ.specs.Assembly.{fit_run}
+use Rattle.organ.specs.Pass.{fit_run}
 use Rattle.organ.proofs.assembly.fit_all.Given as goal
 
-abbrev pub invariant-loop-wire : goal.invariant-loop-wire
-invariant-loop-wire g l =
+abbrev pub invariant-loop-number : goal.invariant-loop-number
+invariant-loop-number g l =
     let chest = g.C.Chest in
     let m = chest.meaning l.initial.board.below.chest in
-    (fit_run l.on m (layout l.initial.board.wiring) l.wires ≡ fit_run l.on m (layout l.board.wiring) (drop l.wire-index l.wires))
+    (fit_run l.on m (layout l.initial.board.wiring) 0 l.wires ≡ fit_run l.on m (layout l.board.wiring) l.number-counter (drop l.number-counter l.wires))
     × ((layout l.board.wiring).reach ≡ (layout l.initial.board.wiring).reach)
     × (l.board.below ≡ l.initial.board.below)
     × (Settled chest.meaning chest.settled l.initial.board → Settled chest.meaning chest.settled l.board)

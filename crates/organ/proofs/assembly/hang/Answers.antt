@@ -2,7 +2,8 @@
 use Rattle.std.proofs.Common.{◌≡◌, Ok, Err, sym, refl, ap, ◌∙◌, subst}
 use Rattle.std.proofs.lemmas.Result.{err_from_is_err_and}
 use Rattle.chest.specs.Reaches.{reach_of}
-use Rattle.organ.specs.Assembly.{Assembles, earlier_of, hang_all}
+use Rattle.organ.specs.Assembly.{Assembles, hang_all}
+use Rattle.organ.specs.Pass.{earlier_of}
 use Rattle.organ.proofs.Stacks.{Hangs, runs, hangs}
 use Rattle.organ.proofs.assembly.hang.Goals as goal
 

@@ -1,0 +1,48 @@
+-- Assembling in a fitter's words: one wire after the other, each offered to its board as it then stands. Assumes nothing.
+use Rattle.std.specs.Prelude.{◌≡◌, cond, List, [], ◌∷◌, ◌++◌, Ok, Err, Result, IfOk, ◌↔◌}
+use Rattle.chest.specs.Meaning.{Meaning}
+use Rattle.book.specs.declared.forms.Board.{Board}
+use Rattle.book.specs.declared.forms.Board.TheVariants.{Coupler, Stop}
+use Rattle.book.specs.declared.record.BookWire.{BookWire}
+use Rattle.book.specs.Book.{on_board}
+use Rattle.board.specs.declared.board.RelayBoard.{RelayBoard}
+use Rattle.board.specs.declared.fault.BoardFault.{BoardFault}
+use Rattle.board.specs.declared.lead.Lead.{Lead}
+use Rattle.board.specs.Wires.{Reaches}
+use Rattle.board.specs.RelayBoard.{meaning_of}
+use Rattle.board.specs.Fitting.{lead_of}
+use Rattle.organ.specs.declared.assembly.Refusal.{Refusal}
+use Rattle.organ.specs.Assembly.{Hung, board_answer, stack_meaning}
+
+-- those of a list of wires that are for this board, in their order, as it keeps them
+abbrev pub just_its_own : Board → List BookWire → List Lead
+just_its_own b [] = []
+just_its_own b (w ∷ ws) = cond (on_board b w) (lead_of w.wire ∷ just_its_own b ws) (just_its_own b ws)
+
+abbrev pub each_its_own : List BookWire → Hung
+each_its_own ws = record { couplers = just_its_own Coupler ws; stops = just_its_own Stop ws }
+
+module _ (keys : Reaches) (m : Meaning) where
+  -- what the board of a wire answers to it once it has its own of the wires before it
+  abbrev pub answer_after : List BookWire → BookWire → Result Unit BoardFault
+  answer_after front w = board_answer keys m w.board (each_its_own front) w.wire
+
+  -- each of these wires is taken by its board as it then stands
+  abbrev pub AllTaken : List BookWire → Type 0
+  AllTaken ws =
+      (front : List BookWire) (w : BookWire) (rest : List BookWire) → ws ≡ front ++ w ∷ rest → answer_after front w ≡ Ok tt
+
+  -- the wires are some front, one wire and some rest: all of the front are taken, and the board of the one refuses it so
+  pub record RefusedFor (ws : List BookWire) (r : Refusal) : Type 0 where
+    pub front : List BookWire
+    pub wire : BookWire
+    pub rest : List BookWire
+    pub are : ws ≡ front ++ wire ∷ rest
+    pub taken : AllTaken front
+    pub refused : answer_after front wire ≡ Err r.fault
+    pub line : r.line ≡ wire.line
+
+  -- a stack is refused for a wire exactly if that is so; else all wires are taken, and each board has just its own
+  pub record FittedInOrder {C : Type 0} (meaning : C → Meaning) (ws : List BookWire) (result : Result (RelayBoard (RelayBoard C)) Refusal) : Type 0 where
+    pub refused : (r : Refusal) → (result ≡ Err r) ↔ RefusedFor ws r
+    pub taken : IfOk result (λ stack. AllTaken ws × (meaning_of (meaning_of meaning) stack ≡ stack_meaning keys m (each_its_own ws)))
