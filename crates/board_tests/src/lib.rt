@@ -8,7 +8,6 @@ use bottom::magnet_chest::MagnetChest;
 use bottom::midi_chest::MidiChest;
 use chest::chest::Chest;
 
-pub mod stack;
 
 /// What is done to a chest, and how many pipes change at the strobe after it.
 #[derive(Clone, Copy)]

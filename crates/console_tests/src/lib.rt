@@ -3,7 +3,6 @@
 
 use board::board::RelayBoard;
 use board::fault::BoardFault;
-use fittings::Wire;
 use bottom::magnet_chest::MagnetChest;
 use bottom::midi_chest::MidiChest;
 use chest::chest::Chest;
@@ -13,9 +12,7 @@ use console::console::Console;
 use console::fault::PlayFault;
 use console::knob_table::KnobTable;
 use console::piston_table::PistonTable;
-use fittings::{Knob, Scope};
-
-pub mod foot;
+use fittings::{Knob, Scope, Wire};
 
 // A call, and its answer: the number of pipes that change, or that of the fault.
 type Row = (Call, Result<u32, u8>);

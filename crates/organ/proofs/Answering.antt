@@ -48,7 +48,7 @@ module _ {C : Type 0} {meaning : C → Meaning} {settled : C → Type 0} {c : Co
     more Nothing is r = push silent (subst (λ x. IsOf x silent) (sym is) tt) (kept (flat_map call_in old.outcomes) (flat_map answer_in old.outcomes) r.0 old.recorded) (r.1 ∙ sym (append-nil mid))
     more (Perform call) is r =
         push (did call r.0) (subst (λ x. IsOf x (did call r.0)) (sym is) refl) (recorded_more {d = d} {e = e} call r.0 old.recorded r.1) r.2
-    more (LowNote division note) is r = push low (subst (λ x. IsOf x low) (sym is) tt) (kept (flat_map call_in old.outcomes) (flat_map answer_in old.outcomes) r.0 old.recorded) r.1
+    more (LowNote division note) is r = push (low division note) (subst (λ x. IsOf x (low division note)) (sym is) (refl, refl)) (kept (flat_map call_in old.outcomes) (flat_map answer_in old.outcomes) r.0 old.recorded) r.1
 
     pub answered_more : Responds meaning settled (action_of m) d e mid after → Answered meaning settled c e s p (ms ++ m ∷ []) before after
     answered_more = more (action_of m) refl

@@ -1,3 +1,4 @@
+mod Asked
 mod Passes
 mod Fitters
 mod Runs

@@ -3,12 +3,18 @@ use Rattle.std.specs.Prelude.{ℕ, ◌-◌, cond, ◌==◌, nat_le, nat_lt}
 use Rattle.midi.specs.declared.message.Message.{Message}
 use Rattle.midi.specs.declared.message.Message.TheVariants.{NoteOff, NoteOn, KeyPressure, Controller, Program, ChannelPressure, Bend}
 use Rattle.console.specs.declared.call.Call.TheVariants.{Press, Lift, Sustain, Clear, Turn, Capture, Recall, Cancel}
+use Rattle.console.specs.declared.fault.PlayFault.{PlayFault}
+use Rattle.console.specs.declared.fault.PlayFault.TheVariants.{Key}
 use Rattle.organ.specs.declared.action.Action.{Action}
 use Rattle.organ.specs.declared.action.Action.TheVariants.{Nothing, Perform, LowNote}
 
 -- channels 0 to 14 are divisions, channel 15 is for knobs and pistons
 abbrev pub on_channel : ℕ → Action → Action → Action
 on_channel channel division settings = cond (channel == 15) settings division
+
+-- a note below that of key 0 is refused as a key that its division does not have; the fault carries the note itself
+abbrev pub low_note : ℕ → ℕ → PlayFault
+low_note division note = Key division note
 
 -- a note of a division: key 0 has note 36, and velocity 0 lifts
 abbrev pub key_action : ℕ → ℕ → ℕ → Action

@@ -1,4 +1,5 @@
 pub mod Action
+pub mod Asking
 pub mod Line
 pub mod Assembly
 pub mod Fitter

@@ -1,9 +1,9 @@
 -- The bytes of a listing's lines. Assumes nothing.
-use Rattle.std.specs.Prelude.{ℕ, ◌+◌, ◌*◌, ◌≤◌, List, ◌++◌, codes, decimal, Vec, vec_len, vec_capacity}
+use Rattle.std.specs.Prelude.{ℕ, ◌+◌, ◌*◌, ◌<◌, ◌≤◌, List, ◌++◌, codes, decimal, Vec, vec_len, vec_capacity}
 use Rattle.book.specs.BookFault as book
 use Rattle.console.specs.PlayFault as console
-use Rattle.organ.specs.declared.listing.Line.{Line}
-use Rattle.organ.specs.declared.listing.Line.TheVariants.{Done, Fault, Book, Wire}
+use Rattle.organ.specs.declared.line.Line.{Line}
+use Rattle.organ.specs.declared.line.Line.TheVariants.{Done, Fault, Book, Wire}
 use Rattle.organ.specs.Assembly.{refusal_number}
 
 -- the closing bracket, and the byte that ends a line
@@ -34,6 +34,10 @@ Grown before after bytes = (vec_len after ≤ vec_len before + bytes) × (vec_ca
 -- room for so many lines, of which none is longer than 64 bytes
 abbrev pub HasRoom : {X Z : Type 0} → Vec X Z → ℕ → Type 0
 HasRoom listing lines = HasSpace listing (64 * lines)
+
+-- no room for one line more
+abbrev pub LacksRoom : {X Z : Type 0} → Vec X Z → Type 0
+LacksRoom listing = vec_capacity listing < vec_len listing + 64
 
 -- longer by one line at most, and with no less memory
 abbrev pub OneLineMore : {X Z : Type 0} → Vec X Z → Vec X Z → Type 0

@@ -1,8 +1,8 @@
 -- The one line that is listed for a book that is refused. Assumes nothing.
 use Rattle.book.specs.declared.faults.BookFault.{BookFault}
 use Rattle.organ.specs.declared.assembly.Refusal.{Refusal}
-use Rattle.organ.specs.declared.listing.Line.{Line}
-use Rattle.organ.specs.declared.listing.Line.TheVariants.{Book, Wire}
+use Rattle.organ.specs.declared.line.Line.{Line}
+use Rattle.organ.specs.declared.line.Line.TheVariants.{Book, Wire}
 
 -- the text is no book
 abbrev pub fault_line : BookFault → Line

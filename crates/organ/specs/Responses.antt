@@ -6,10 +6,11 @@ use Rattle.console.specs.Record.{Answer}
 use Rattle.console.specs.Tracks.{Follows}
 use Rattle.organ.specs.declared.action.Action.{Action}
 use Rattle.organ.specs.declared.action.Action.TheVariants.{Nothing, Perform, LowNote}
+use Rattle.organ.specs.Action.{low_note}
 use Rattle.organ.specs.declared.response.OutOfMemory.{OutOfMemory}
-use Rattle.organ.specs.declared.listing.Line.{Line}
-use Rattle.organ.specs.declared.listing.Line.TheVariants.{Done, Fault}
-use Rattle.organ.specs.Line.{line_bytes, fault_bytes}
+use Rattle.organ.specs.declared.line.Line.{Line}
+use Rattle.organ.specs.declared.line.Line.TheVariants.{Done, Fault}
+use Rattle.organ.specs.Line.{line_bytes}
 
 -- the line of an answer
 abbrev pub line_of : Answer → Line
@@ -21,7 +22,7 @@ abbrev pub Responds : {C : Type 0} (meaning : C → Meaning) (settled : C → Ty
 Responds meaning settled Nothing c d before after = (d ≡ c) × (after ≡ before)
 Responds meaning settled (Perform call) c d before after =
     (answer : Answer) × Follows meaning settled c call answer d × (after ≡ before ++ line_bytes (line_of answer))
-Responds meaning settled (LowNote division note) c d before after = (d ≡ c) × (after ≡ before ++ fault_bytes 2)
+Responds meaning settled (LowNote division note) c d before after = (d ≡ c) × (after ≡ before ++ line_bytes (Fault (low_note division note)))
 
 -- how many messages were answered: all of them, or those before the one that found no memory
 abbrev pub until : Result Unit OutOfMemory → ℕ → ℕ

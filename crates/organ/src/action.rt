@@ -1,8 +1,9 @@
 //! What a message of the line asks of the console.
 ghost use Rattle.std.specs.Prelude.{◌≡◌};
-ghost use Rattle.organ.specs.Action.{action_of, key_action, note_setting, note_action, controller_action};
+ghost use Rattle.organ.specs.Action.{action_of, key_action, low_note, note_setting, note_action, controller_action};
 
 use console::call::Call;
+use console::fault::PlayFault;
 use midi::Message;
 
 // The channel that is no division: its messages are for knobs and pistons.
@@ -26,6 +27,16 @@ pub enum Action {
     Perform(Call),
     /// A note below that of key 0.
     LowNote { division: usize, note: usize },
+}
+
+// The fault of a note below that of key 0: no key has it, so the fault carries the note.
+pub(crate) fn low_note(division: usize, note: usize) -> PlayFault
+    ensures { result ≡ low_note division note }
+{
+    PlayFault::Key {
+        division,
+        key: note,
+    }
 }
 
 // A note of a division: velocity 0 lifts its key, and another presses it.

@@ -8,16 +8,14 @@ ghost use Rattle.organ.specs.Assembly.{refusal_number, hang_all, Assembles};
 ghost use Rattle.organ.specs.Fitter.{FittedInOrder};
 ghost use Rattle.organ.specs.Pass.{fit_run, earlier_of};
 
+use crate::stack::Stack;
 use board::board::RelayBoard;
 use board::fault::BoardFault;
 use book::{Board, Book, BookWire};
 use chest::chest::{Chest, ROWS};
 use std::array;
 
-/// Coupler board over stop board over a bottom chest.
-pub type Stack<C> = RelayBoard<RelayBoard<C>>;
-
-/// A wire that its board refuses, with the line where the book has it.
+//// A wire that its board refuses, with the line where the book has it.
 #[derive(Clone, Copy, Debug, PartialEq)]
 pub struct Refusal {
     pub line: usize,

@@ -4,7 +4,9 @@
 
 pub mod action;
 pub mod assembly;
-pub mod listing;
+pub mod laws;
+pub mod line;
 pub mod opening;
 pub mod response;
+pub mod stack;
 mod tables;

@@ -2,7 +2,7 @@
 #![tactic(auto)]
 
 use book::BookReader;
-use organ::listing::Line;
+use organ::line::Line;
 use recital::MagnetRecital;
 use std::io::{ErrorKind, Read, Write};
 use std::{fs, io};

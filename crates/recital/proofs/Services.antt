@@ -16,10 +16,11 @@ use Rattle.console.specs.Record.{Answer, Entry, EntryLaw, RecordLaw, pipes_of, s
 use Rattle.organ.specs.declared.action.Action.{Action}
 use Rattle.organ.specs.declared.action.Action.TheVariants.{Nothing, Perform, LowNote}
 use Rattle.organ.specs.declared.assembly.Refusal.{Refusal}
-use Rattle.organ.specs.Action.{action_of}
+use Rattle.organ.specs.Action.{action_of, low_note}
+use Rattle.organ.specs.declared.line.Line.TheVariants.{Fault}
 use Rattle.organ.specs.Assembly.{Hung, stack_meaning}
 use Rattle.organ.specs.Answered.{Outcome, silent, low, did, IsOf, AreOf, call_in, answer_in, line_in}
-use Rattle.organ.specs.Line.{line_bytes, fault_bytes}
+use Rattle.organ.specs.Line.{line_bytes}
 use Rattle.organ.specs.Opening.{Opens, book_setup, organ_meaning}
 use Rattle.organ.specs.Responses.{line_of}
 use Rattle.recital.specs.declared.playing.Recital.{Recital}
@@ -81,15 +82,15 @@ module _ (s : Setup) (stack : Meaning) where
 
     told_more : (a : Action) (o : Outcome) → IsOf a o → (es : List Entry) (m : Meaning) (p : Model) → m.rule ≡ stack.rule → m.speaking ≡ pipes_of stack p → map (λ e. e.call) es ≡ call_in o ++ flat_map call_in os → map (λ e. e.answer) es ≡ answer_in o ++ flat_map answer_in os → RecordLaw s m p es → line_in o ++ flat_map line_in os ≡ action_line s stack p a ++ message_lines s stack (action_after s p a) ms
     told_more Nothing silent is es m p rule speaks calls answers law = rest es m p rule speaks calls answers law
-    told_more Nothing low is es m p rule speaks calls answers law = absurd is
+    told_more Nothing (low e k) is es m p rule speaks calls answers law = absurd is
     told_more Nothing (did call r) is es m p rule speaks calls answers law = absurd is
     told_more (Perform c) silent is es m p rule speaks calls answers law = absurd is
-    told_more (Perform c) low is es m p rule speaks calls answers law = absurd is
+    told_more (Perform c) (low e k) is es m p rule speaks calls answers law = absurd is
     told_more (Perform c) (did call r) is es m p rule speaks calls answers law =
         subst (λ x. line_bytes (line_of r) ++ flat_map line_in os ≡ line_bytes (line_of (model_answer s stack p x)) ++ message_lines s stack (after s p x) ms) is (call_told call r es m p rule speaks calls answers law)
     told_more (LowNote d n) silent is es m p rule speaks calls answers law = absurd is
-    told_more (LowNote d n) low is es m p rule speaks calls answers law =
-        ap (λ l. fault_bytes 2 ++ l) (rest es m p rule speaks calls answers law)
+    told_more (LowNote d n) (low e k) is es m p rule speaks calls answers law =
+        λ i. line_bytes (Fault (low_note (is.0 i) (is.1 i))) ++ rest es m p rule speaks calls answers law i
     told_more (LowNote d n) (did call r) is es m p rule speaks calls answers law = absurd is
 
   pub told : (ms : List Message) (os : List Outcome) → AreOf ms os → Told ms os

@@ -13,9 +13,10 @@ use Rattle.console.specs.Record.{Answer, pipes_of, strobing, answer_of}
 use Rattle.organ.specs.declared.action.Action.{Action}
 use Rattle.organ.specs.declared.action.Action.TheVariants.{Nothing, Perform, LowNote}
 use Rattle.organ.specs.declared.assembly.Refusal.{Refusal}
-use Rattle.organ.specs.Action.{action_of}
+use Rattle.organ.specs.Action.{action_of, low_note}
+use Rattle.organ.specs.declared.line.Line.TheVariants.{Fault}
 use Rattle.organ.specs.Assembly.{Hung}
-use Rattle.organ.specs.Line.{line_bytes, fault_bytes}
+use Rattle.organ.specs.Line.{line_bytes}
 use Rattle.organ.specs.Responses.{line_of}
 use Rattle.organ.specs.Refused.{fault_line, refusal_line}
 use Rattle.recital.specs.Described.{setup_said, hung_said, stack_said}
@@ -42,7 +43,7 @@ module _ (s : Setup) (stack : Meaning) where
   abbrev pub action_line : Model → Action → List ℕ
   action_line p Nothing = []
   action_line p (Perform call) = line_bytes (line_of (model_answer p call))
-  action_line p (LowNote division note) = fault_bytes 2
+  action_line p (LowNote division note) = line_bytes (Fault (low_note division note))
 
   -- the lines of messages, from a model on
   abbrev pub message_lines : Model → List Message → List ℕ

@@ -11,7 +11,7 @@ use Rattle.book.specs.Reading.{read_of}
 use Rattle.console.specs.Model.{Setup, first}
 use Rattle.console.specs.Record.{Entry, RecordLaw, Making}
 use Rattle.organ.specs.declared.assembly.Refusal.{Refusal}
-use Rattle.organ.specs.declared.listing.Line.{Line}
+use Rattle.organ.specs.declared.line.Line.{Line}
 use Rattle.organ.specs.Assembly.{Hung}
 use Rattle.organ.specs.Answered.{Outcome, AreOf, call_in, answer_in, line_in}
 use Rattle.organ.specs.Line.{line_bytes}

@@ -13,10 +13,11 @@ use chest::chest::Chest;
 use chest::sender::Sender;
 use console::console::Console;
 use midi::Reader;
-use organ::assembly::{Refusal, Stack};
-use organ::listing::{LONGEST_LINE, Line};
+use organ::assembly::Refusal;
+use organ::line::{LONGEST_LINE, Line};
 use organ::opening::open_magnets;
 use organ::response::respond;
+use organ::stack::Stack;
 use std::alloc::AllocError;
 
 #[derive(Drop)]

@@ -1,6 +1,6 @@
 //! The lines of a listing: what was done and what was refused.
-ghost use Rattle.std.specs.Prelude.{◌≡◌, ◌+◌, true, ◌++◌, length, is_ok, if◌then◌else◌, codes, decimal};
-ghost use Rattle.organ.specs.Line.{line_bytes, HasSpace, Grown, HasRoom, OneLineMore};
+ghost use Rattle.std.specs.Prelude.{◌≡◌, ◌+◌, true, ◌++◌, length, is_ok, OnErr, if◌then◌else◌, codes, decimal};
+ghost use Rattle.organ.specs.Line.{line_bytes, HasSpace, Grown, HasRoom, LacksRoom, OneLineMore};
 ghost use Rattle.organ.specs.Refused.{fault_line, refusal_line};
 ghost use Rattle.organ.specs.Responses.{line_of};
 
@@ -58,9 +58,10 @@ impl Line {
     pub fn add_to(self, listing: &mut Vec<u8>) -> Result<(), AllocError>
         ensures items { listing.new.items ≡ (if is_ok result then listing.old.items ++ line_bytes self else listing.old.items) }
         ensures succeeds { HasRoom listing.old 1 → is_ok result ≡ true }
+        ensures full { OnErr result (LacksRoom listing.new) }
         ensures bound { OneLineMore listing.old listing.new }
     {
-        // Tried by `write!` and a `Display`: no contract of theirs says that they succeed where there is room.
+        // by hand and not by `write!`, whose contract does not say that it succeeds where there is room
         listing.reserve(LONGEST_LINE)?;
         match self {
             Line::Done { count } => push_field(listing, b"(done ", count),

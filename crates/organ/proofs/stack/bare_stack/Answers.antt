@@ -1,7 +1,7 @@
 -- The answer for `bare_stack`: each making, over the one before.
 use Rattle.std.proofs.Common.{ap, ◌∙◌}
 use Rattle.board.specs.Making.{new_meaning}
-use Rattle.board_tests.proofs.stack.bare_stack.Goals as goal
+use Rattle.organ.proofs.stack.bare_stack.Goals as goal
 
 pub returns : goal.returns
 returns c =

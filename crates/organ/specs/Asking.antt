@@ -1,0 +1,32 @@
+-- Which calls a MIDI line can ask for, by their numbers. Assumes nothing.
+use Rattle.std.specs.Prelude.{◌≡◌, ◌<◌}
+use Rattle.midi.specs.declared.message.Message.{Message}
+use Rattle.midi.specs.Reading.{InRange}
+use Rattle.console.specs.declared.call.Call.{Call}
+use Rattle.console.specs.declared.call.Call.TheVariants.{Press, Lift, Sustain, Clear, Turn, Capture, Recall, Cancel}
+use Rattle.organ.specs.declared.action.Action.TheVariants.{Perform}
+use Rattle.organ.specs.Action.{action_of}
+
+-- keys 0 to 91 of divisions 0 to 14, and the sustains and clears of these; knobs 0 to 63, to positions up to 127;
+-- captures on pistons up to 126 and recalls of pistons up to 127, of which only 0 to 39 can be there; and a cancel
+abbrev pub Askable : Call → Type 0
+Askable (Press division key) = (division < 15) × (key < 92)
+Askable (Lift division key) = (division < 15) × (key < 92)
+Askable (Sustain division on) = division < 15
+Askable (Clear division) = division < 15
+Askable (Turn knob position) = (knob < 64) × (position < 128)
+Askable (Capture piston) = piston < 127
+Askable (Recall piston) = piston < 128
+Askable Cancel = Unit {0}
+
+-- a message asks for a call
+abbrev pub Asks : Message → Call → Type 0
+Asks m call = action_of m ≡ Perform call
+
+pub record AskingLaw : Type 0 where
+  -- a message that MIDI can say asks for no other call
+  pub only : (m : Message) (call : Call) → InRange m → Asks m call → Askable call
+  -- and for one at most
+  pub one : (m : Message) (call other : Call) → Asks m call → Asks m other → call ≡ other
+  -- for each of these calls there is a message that asks for it
+  pub each : (call : Call) → Askable call → (m : Message) × InRange m × Asks m call

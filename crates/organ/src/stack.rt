@@ -1,0 +1,32 @@
+//! The stack of an organ: coupler board over stop board over a bottom chest.
+ghost use Rattle.std.specs.Prelude.{◌≡◌, length, take};
+ghost use Rattle.bottom.specs.Foot.{new_bottom};
+ghost use Rattle.bottom.specs.MagnetChest.{magnet_meaning, MagnetSettled};
+ghost use Rattle.bottom.specs.MidiChest.{midi_meaning, midi_sent};
+ghost use Rattle.bottom.specs.Receiver.{DrainLaw};
+ghost use Rattle.board.specs.RelayBoard.{meaning_of, Settled};
+ghost use Rattle.board.specs.Making.{new_meaning};
+
+use board::board::RelayBoard;
+use bottom::magnet_chest::MagnetChest;
+use bottom::midi_chest::MidiChest;
+use chest::chest::ROWS;
+use console::console::Console;
+
+pub type Stack<C> = RelayBoard<RelayBoard<C>>;
+
+/// A stack over magnets with no wire yet, for a host that fits its own.
+pub fn bare_stack(keys: [u8; ROWS], ranks: [u8; ROWS]) -> Stack<MagnetChest>
+    ensures settled { Settled (meaning_of magnet_meaning) (Settled magnet_meaning MagnetSettled) result }
+    ensures value { meaning_of (meaning_of magnet_meaning) result ≡ new_meaning keys (new_meaning keys (new_bottom ranks)) }
+{
+    let stops = RelayBoard::new(MagnetChest::new(ranks), keys);
+    RelayBoard::new(stops, keys)
+}
+
+/// Has the MIDI chest at the foot of a console's stack write what its receiver is to be told.
+pub fn send_from_foot(console: &mut Console<Stack<MidiChest>>, buffer: &mut [u8]) -> usize
+    ensures { DrainLaw (midi_meaning console.old.chest.below.chest.below.chest).speaking (midi_sent console.old.chest.below.chest.below.chest) (midi_sent console.new.chest.below.chest.below.chest) (length buffer.old) (take result buffer.new) }
+{
+    console.send(buffer)
+}
