@@ -5,7 +5,7 @@ use Rattle.std.proofs.lemmas.Bool.{cases_lt}
 use Rattle.std.specs.Option.{option_map}
 use Rattle.std.specs.Result.{IsOk, OnOk, OnErr}
 use Rattle.arrayvec.specs.ArrayVec.{ArrayVec}
-use Rattle.book.specs.declared.shapes.Parts.{Parts}
+use Rattle.book.specs.declared.parts.Parts.{Parts}
 use Rattle.book.proofs.Cutting.{some-pieces}
 use Rattle.book.specs.Bytes.{space, opening, closing}
 use Rattle.book.specs.Numerals.{numeral}

@@ -1,9 +1,9 @@
 -- A book read line by line. Assumes nothing.
-use Rattle.std.proofs.Common.{◌≡◌, ℕ, suc, ◌+◌, ◌<◌, ◌≤◌, Bool, true, false, not, eqb, ltb, List, [], ◌∷◌, length, take, drop, Some, None, Ok, Err, Result, sym, refl, ap, ◌∙◌, subst, ⊎_elim, add-one, one-add, arith}
+use Rattle.std.proofs.Common.{◌≡◌, ℕ, suc, ◌+◌, ◌<◌, ◌≤◌, true, false, not, eqb, List, [], ◌∷◌, length, take, drop, Some, None, Ok, Err, Result, sym, refl, ap, ◌∙◌, subst, ⊎_elim, add-one, one-add, arith}
 use Rattle.std.specs.List.{prefix_len}
 use Rattle.std.proofs.lemmas.List.{length-append}
-use Rattle.std.proofs.lemmas.Bool.{cond-true, cond-false, cases_Bool, le-ltb, ltb-true, ltb-false}
-use Rattle.book.specs.declared.faults.BookFault.{BookFault}
+use Rattle.std.proofs.lemmas.Bool.{cond-true, cond-false, cases_Bool, le-ltb}
+use Rattle.book.specs.declared.book_fault.BookFault.{BookFault}
 use Rattle.book.specs.declared.record.Book.{Book}
 use Rattle.book.specs.Bytes.{line_end, inside, first_outside}
 use Rattle.book.specs.Entry.{Entry, Holds}
@@ -12,6 +12,7 @@ use Rattle.book.specs.Passage.{Comes}
 use Rattle.book.specs.declared.passage.Passage.{Passage}
 pub use Rattle.book.proofs.Gluing.{cut-some}
 use Rattle.book.proofs.Gluing.{glued}
+use Rattle.book.proofs.Outside.{some-outside, none-outside}
 use Rattle.book.specs.Reading.{onto_first, cut, and_then, with_line, at_end, lines_from, read_of, Answers, Fills}
 
 ends : (b : ℕ) (bs : List ℕ) → eqb b line_end ≡ true → prefix_len inside (b ∷ bs) ≡ 0
@@ -38,23 +39,6 @@ cut-none (b ∷ bs) h =
     (λ d. absurd (omega (arith, ends b bs d)))
     (λ d. cond-false _ _ _ d ∙ ap (onto_first b) (cut-none bs (omega (arith, goes b bs d))))
     (cases_Bool (eqb b line_end))
-
-some-outside : (p : ℕ → Bool) (bs : List ℕ) (n : ℕ) → Some n ≡ first_outside p bs → (n ≡ prefix_len p bs) × (n < length bs)
-some-outside p bs n e =
-    ⊎_elim
-    (λ d.
-    let s = e ∙ cond-true _ (Some (prefix_len p bs)) None d in
-    let same : n ≡ prefix_len p bs = cc in
-    (same, omega (arith, ltb-true _ _ d)))
-    (λ d. absurd (let s = e ∙ cond-false _ (Some (prefix_len p bs)) None d in grind arith))
-    (cases_Bool (ltb (prefix_len p bs) (length bs)))
-
-none-outside : (p : ℕ → Bool) (bs : List ℕ) → None ≡ first_outside p bs → length bs ≤ prefix_len p bs
-none-outside p bs e =
-    ⊎_elim
-    (λ d. absurd (let s = e ∙ cond-true _ (Some (prefix_len p bs)) None d in grind arith))
-    (λ d. ltb-false _ _ d)
-    (cases_Bool (ltb (prefix_len p bs) (length bs)))
 
 pub cut_last : (bs : List ℕ) → None ≡ first_outside inside bs → cut bs ≡ bs ∷ []
 cut_last bs none = cut-none bs (none-outside inside bs none)

@@ -6,7 +6,7 @@ use Rattle.std.proofs.lemmas.Bool.{cond-true, cond-false, cases_Bool, true≢fal
 use Rattle.std.proofs.lemmas.Bool.Decides.{nat_tests}
 use Rattle.book.specs.Bytes.{letter, numeric, space}
 use Rattle.book.specs.Pieces.{Kind, letters, figures, Piece, run, mark, of_kind, run_before, before, pieces}
-use Rattle.book.specs.declared.lexing.Token.TheVariants.{Word, Number}
+use Rattle.book.specs.declared.token.Token.TheVariants.{Word, Number}
 use Rattle.book.specs.Token.{begins, token_first, Cuts, Runs}
 use Rattle.std.specs.Option.{option_map}
 use denote.Ref.{Bor}

@@ -3,20 +3,21 @@ use Rattle.std.proofs.Common.{◌≡◌, ℕ, true, cond, eqb, List, [], length,
 use Rattle.std.proofs.lemmas.List.{nil_from_length}
 use Rattle.std.proofs.lemmas.Bool.{cond-true, cond-false, cases_Bool, eqb-true, eqb-false}
 use Rattle.std.proofs.lemmas.Option.{none-some, same_Some}
-use Rattle.book.specs.declared.faults.BookFault.{BookFault}
-use Rattle.book.specs.declared.faults.BookFault.TheVariants as fault
-use Rattle.book.specs.declared.forms.Form.{Form}
-use Rattle.book.specs.declared.forms.Head.{Head}
+use Rattle.book.specs.declared.book_fault.BookFault.{BookFault}
+use Rattle.book.specs.declared.book_fault.BookFault.TheVariants as fault
+use Rattle.book.specs.declared.form.Form.{Form}
+use Rattle.book.specs.declared.head.Head.{Head}
+use Rattle.book.specs.Bytes.{allowed, first_outside}
 use Rattle.book.specs.Entry.{Entry}
 use Rattle.book.specs.BookFault.{line_of}
 use Rattle.book.specs.Form.{form_from}
 use Rattle.book.specs.Grammar.{written, Faulty}
 use Rattle.book.specs.Head.{head_of, spelling, takes}
 use Rattle.book.specs.Pieces.{Shape, shape_of}
-use Rattle.book.specs.Reading.{clean, in_range, counted, form_of, some_form, shaped, line_form}
+use Rattle.book.specs.Reading.{unless_byte, in_range, counted, form_of, some_form, shaped, line_form}
 use Rattle.book.proofs.Clash.{ok_err, ok_same, err_same}
 use Rattle.book.proofs.Forming.{form_complete}
-use Rattle.book.proofs.Heading.{Clean, head_sound, head_complete, clean-sound, clean-bad}
+use Rattle.book.proofs.Heading.{Clean, head_sound, head_complete, clean-sound, first-bad}
 use Rattle.book.proofs.Spelling.{shape_sound, shape_complete}
 
 -- what is wrong with line n, where its own form is not given twice
@@ -67,20 +68,17 @@ wrong_shape n l e None ok some none is_err =
     (refl, λ es. (ok, some, λ _ w zs word short text. none-some _ (sym none ∙ ap shape_of text ∙ shape_complete w zs word short)))
 wrong_shape n l e (Some s) ok some is is_err = wrong_head n l s is e (head_of s.head) refl is_err
 
-pub wrong_line : (n : ℕ) (l : List ℕ) (e : BookFault) → Err e ≡ line_form n l → Wrong n l e
+wrong_byte : (n : ℕ) (l : List ℕ) (e : BookFault) (o : Option ℕ) → first_outside allowed l ≡ o → Err e ≡ unless_byte n o (cond (eqb (length l) 0) (Ok None) (shaped n (shape_of l))) → Wrong n l e
 unfolding Wrong
-wrong_line n l e is_err =
+wrong_byte n l e (Some at) bad is_err = subst (Wrong n l) (sym (err_same _ _ is_err)) (refl, λ es. first-bad l at bad)
+wrong_byte n l e None ok is_err =
     ⊎_elim
-    (λ ok.
-    let inner = is_err ∙ cond-true _ (cond (eqb (length l) 0) (Ok None) (shaped n (shape_of l))) _ ok in
-    ⊎_elim
-    (λ none. absurd (ok_err _ _ (sym (inner ∙ cond-true _ _ _ none))))
-    (λ some. wrong_shape n l e (shape_of l) (clean-sound l ok) (λ empty. eqb-false _ _ some (ap length empty)) refl (inner ∙ cond-false _ _ _ some))
-    (cases_Bool (eqb (length l) 0)))
-    (λ bad.
-    subst (Wrong n l) (sym (err_same _ _ (is_err ∙ cond-false _ (cond (eqb (length l) 0) (Ok None) (shaped n (shape_of l))) _ bad)))
-    (refl, λ es. clean-bad l bad))
-    (cases_Bool (clean l))
+    (λ none. absurd (ok_err _ _ (sym (is_err ∙ cond-true _ _ _ none))))
+    (λ some. wrong_shape n l e (shape_of l) (clean-sound l ok) (λ empty. eqb-false _ _ some (ap length empty)) refl (is_err ∙ cond-false _ _ _ some))
+    (cases_Bool (eqb (length l) 0))
+
+pub wrong_line : (n : ℕ) (l : List ℕ) (e : BookFault) → Err e ≡ line_form n l → Wrong n l e
+wrong_line n l e is_err = wrong_byte n l e (first_outside allowed l) refl is_err
 
 -- a line that gives nothing is empty
 some-never : (r : Result Form BookFault) → Ok None ≡ some_form r → ⊥
@@ -91,13 +89,13 @@ shaped-never : (n : ℕ) (o : Option Shape) → Ok None ≡ shaped n o → ⊥
 shaped-never n None e = ok_err _ _ e
 shaped-never n (Some s) e = some-never (form_of n s) e
 
-pub empty_line : (n : ℕ) (l : List ℕ) → Ok None ≡ line_form n l → l ≡ []
-empty_line n l e =
-    ⊎_elim
-    (λ ok.
+empty_byte : (n : ℕ) (l : List ℕ) (o : Option ℕ) → Ok None ≡ unless_byte n o (cond (eqb (length l) 0) (Ok None) (shaped n (shape_of l))) → l ≡ []
+empty_byte n l (Some at) e = absurd (ok_err _ _ e)
+empty_byte n l None e =
     ⊎_elim
     (λ none. nil_from_length l (eqb-true _ _ none))
-    (λ some. absurd (shaped-never n (shape_of l) (e ∙ cond-true _ (cond (eqb (length l) 0) (Ok None) (shaped n (shape_of l))) _ ok ∙ cond-false _ _ _ some)))
-    (cases_Bool (eqb (length l) 0)))
-    (λ bad. absurd (ok_err _ _ (e ∙ cond-false _ (cond (eqb (length l) 0) (Ok None) (shaped n (shape_of l))) _ bad)))
-    (cases_Bool (clean l))
+    (λ some. absurd (shaped-never n (shape_of l) (e ∙ cond-false _ _ _ some)))
+    (cases_Bool (eqb (length l) 0))
+
+pub empty_line : (n : ℕ) (l : List ℕ) → Ok None ≡ line_form n l → l ≡ []
+empty_line n l e = empty_byte n l (first_outside allowed l) e

@@ -4,20 +4,20 @@ use Rattle.std.proofs.lemmas.List.{drop_all, drop_more}
 use Rattle.std.proofs.lemmas.Bool.{cond-true, cond-false, cases_Bool, and_parts, leb-true, cases_eq, eq-eqb, ne_eqb}
 use Rattle.std.proofs.lemmas.Bool.Decides.{nat_tests}
 use Rattle.std.proofs.lemmas.Option.{same_Some}
-use Rattle.book.specs.declared.forms.Board.{Board}
-use Rattle.book.specs.declared.forms.Board.TheVariants.{Coupler, Stop}
-use Rattle.book.specs.declared.forms.Form.{Form}
-use Rattle.book.specs.declared.forms.Form.TheVariants as form
-use Rattle.book.specs.declared.forms.Head.{Head}
-use Rattle.book.specs.declared.forms.Head.TheVariants as head
+use Rattle.book.specs.declared.board.Board.{Board}
+use Rattle.book.specs.declared.board.Board.TheVariants.{Coupler, Stop}
+use Rattle.book.specs.declared.form.Form.{Form}
+use Rattle.book.specs.declared.form.Form.TheVariants as form
+use Rattle.book.specs.declared.head.Head.{Head}
+use Rattle.book.specs.declared.head.Head.TheVariants as head
 use Rattle.book.specs.Entry.{InRange}
 use Rattle.book.specs.Form.{given, within, natural, row_from, knob_from, piston_from, wire_from, form_from, board_of, nth}
 use Rattle.book.specs.Grammar.{head_in, numbers_in, board_number}
 use Rattle.book.specs.Head.{takes}
 use Rattle.book.specs.Limits.{rows}
 use Rattle.book.specs.Reading.{formed, in_range}
-use Rattle.book.specs.declared.faults.BookFault.{BookFault}
-use Rattle.book.specs.declared.faults.BookFault.TheVariants as fault
+use Rattle.book.specs.declared.book_fault.BookFault.{BookFault}
+use Rattle.book.specs.declared.book_fault.BookFault.TheVariants as fault
 use Rattle.std.specs.Option.{ok_or}
 
 given-some : {X Y : Type 0} (o : Option X) (f : X → Option Y) (y : Y) → Some y ≡ given o f → (x : X) × (o ≡ Some x) × (Some y ≡ f x)

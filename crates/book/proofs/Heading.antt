@@ -1,25 +1,28 @@
 -- The words of the forms, and a line that is a form's text. Assumes nothing.
-use Rattle.std.proofs.Common.{◌≡◌, ℕ, suc, ◌<◌, true, false, ◌&&◌, cond, ◌⊎◌, List, [], ◌∷◌, length, get_or, ℤ, Some, Ok, Option, sym, refl, ap, ◌∙◌, subst, inl, inr, ⊎_elim, arith}
+use Rattle.std.proofs.Common.{◌≡◌, ℕ, ◌<◌, true, false, cond, eqb, ◌⊎◌, List, [], ◌∷◌, length, get_or, take, ℤ, Some, None, Ok, Option, sym, refl, ap, ◌∙◌, subst, inl, inr, ⊎_elim, arith}
 use Rattle.std.specs.List.{flat_map, AllByRecursion}
 use Rattle.std.specs.Fmt.{signed_decimal}
 use Rattle.std.specs.Str.{bytes_eq}
-use Rattle.std.proofs.ByRecursion.{All-append, All-weaker}
+use Rattle.std.proofs.ByRecursion.{All-append, All-weaker, All-get_or}
+use Rattle.std.proofs.lemmas.List.{take_all}
+use Rattle.std.proofs.lemmas.List.Sums.{prefix_len_stops}
 use Rattle.std.proofs.lemmas.Slice.Eq.{bytes_eq-Decides}
-use Rattle.std.proofs.lemmas.Bool.{cond-true, cond-false, cases_Bool, and_parts, eq-eqb, ne_eqb, true≢false}
+use Rattle.std.proofs.lemmas.Bool.{cond-true, cond-false, cases_Bool, eq-eqb, ne_eqb}
 use Rattle.std.proofs.lemmas.Bool.Decides.{nat_tests}
 use Rattle.std.proofs.lemmas.Option.{none-some, same_Some}
-use Rattle.book.specs.declared.forms.Form.{Form}
-use Rattle.book.specs.declared.forms.Form.TheVariants as form
-use Rattle.book.specs.declared.forms.Head.{Head}
-use Rattle.book.specs.declared.forms.Head.TheVariants as head
-use Rattle.book.specs.Bytes.{allowed, letter, numeric, closing}
+use Rattle.book.specs.declared.form.Form.{Form}
+use Rattle.book.specs.declared.form.Form.TheVariants as form
+use Rattle.book.specs.declared.head.Head.{Head}
+use Rattle.book.specs.declared.head.Head.TheVariants as head
+use Rattle.book.specs.Bytes.{allowed, first_outside, letter, numeric, closing}
 use Rattle.book.specs.Entry.{InRange}
 use Rattle.book.specs.Grammar.{head_in, numbers_in, number_text, written, form_text, Word, Short}
 use Rattle.book.specs.Head.{head_of, spelling, takes}
-use Rattle.book.specs.Pieces.{Shape}
-use Rattle.book.specs.Reading.{clean, in_range, counted, some_form, shaped, line_form}
+use Rattle.book.specs.Pieces.{Shape, shape_of}
+use Rattle.book.specs.Reading.{unless_byte, in_range, counted, some_form, shaped, line_form}
 use Rattle.book.proofs.Forming.{form_sound, form_complete}
 use Rattle.book.proofs.Lining.{line_formed}
+use Rattle.book.proofs.Outside.{some-outside, none-outside, outside-none, passed}
 use Rattle.book.proofs.Spelling.{shape_sound, shape_complete}
 use Rattle.book.proofs.Writing.{signed_numeric}
 
@@ -83,21 +86,17 @@ pub written-clean : (w : List ℕ) (zs : List ℤ) → Word w → AllByRecursion
 written-clean w zs word short =
     (refl, All-append _ w _ (All-weaker _ _ letter-allowed w word.1) (All-append _ (flat_map number_text zs) (closing ∷ []) (numbers_clean zs short) (refl, tt)))
 
-pub clean-complete : (l : List ℕ) → Clean l → clean l ≡ true
-clean-complete [] all = refl
-clean-complete (b ∷ l) all = ap (λ t. t && clean l) all.0 ∙ clean-complete l all.1
+pub clean-complete : (l : List ℕ) → Clean l → first_outside allowed l ≡ None
+clean-complete l all = sym (outside-none allowed l (λ k in'. All-get_or _ l k 0 in' all))
 
-pub clean-sound : (l : List ℕ) → clean l ≡ true → Clean l
-clean-sound [] h = tt
-clean-sound (b ∷ l) h = let p = and_parts _ _ h in (p.0, clean-sound l p.1)
+pub clean-sound : (l : List ℕ) → first_outside allowed l ≡ None → Clean l
+clean-sound l none = subst Clean (take_all (length l) l (omega arith)) (passed allowed l (length l) (none-outside allowed l (sym none)))
 
-pub clean-bad : (l : List ℕ) → clean l ≡ false → (k : ℕ) × (k < length l) × (allowed (get_or l k 0) ≡ false)
-clean-bad [] h = absurd (true≢false h)
-clean-bad (b ∷ l) h =
-    ⊎_elim
-    (λ d. let r = clean-bad l (sym (ap (λ t. t && clean l) d) ∙ h) in (suc r.0, omega (arith, r.1), r.2))
-    (λ d. (0, omega arith, d))
-    (cases_Bool (allowed b))
+-- a byte that may not stand in a line, and before it none
+pub first-bad : (l : List ℕ) (k : ℕ) → first_outside allowed l ≡ Some k → (k < length l) × (allowed (get_or l k 0) ≡ false) × Clean (take k l)
+first-bad l k is =
+    let at = some-outside allowed l k (sym is) in
+    (at.1, ap (λ n. allowed (get_or l n 0)) at.0 ∙ prefix_len_stops allowed l 0 (omega (arith, at.0, at.1)), passed allowed l k (omega (arith, at.0)))
 
 -- a form that a line gives is the form that it spells
 pub record FormLine (l : List ℕ) (f : Form) : Type 0 where
@@ -122,7 +121,7 @@ line_complete n f ranges short =
     let w = spelling (head_in f) in
     let zs = numbers_in f in
     let s : Shape = record { head = w; numbers = zs } in
-    cond-true _ _ _ (clean-complete (form_text f) (written-clean w zs (spelling-word (head_in f)) short)) ∙
+    ap (λ o. unless_byte n o (cond (eqb (length (form_text f)) 0) (Ok None) (shaped n (shape_of (form_text f))))) (clean-complete (form_text f) (written-clean w zs (spelling-word (head_in f)) short)) ∙
     cond-false _ _ _ (ne_eqb (length (form_text f)) 0 (λ (none : length (form_text f) ≡ 0). omega arith)) ∙
     ap (shaped n) (shape_complete w zs (spelling-word (head_in f)) short) ∙
     ap (λ o. some_form (counted n s o)) (head_complete (head_in f)) ∙

@@ -3,9 +3,9 @@ use Rattle.std.proofs.Common.{◌≡◌, ℕ, ◌+◌, ◌<◌, ◌≤◌, ltb, 
 use Rattle.std.proofs.ByRecursion.{All-weaker}
 use Rattle.std.proofs.lemmas.List.{append-nil, append_assoc}
 use Rattle.std.proofs.lemmas.Bool.{cond-true, cond-false, cases_Bool, ltb-true, ltb-false, le-ltb}
-use Rattle.book.specs.declared.faults.BookFault.{BookFault}
-use Rattle.book.specs.declared.faults.BookFault.TheVariants as fault
-use Rattle.book.specs.declared.forms.Form.{Form}
+use Rattle.book.specs.declared.book_fault.BookFault.{BookFault}
+use Rattle.book.specs.declared.book_fault.BookFault.TheVariants as fault
+use Rattle.book.specs.declared.form.Form.{Form}
 use Rattle.book.specs.declared.record.Book.{Book}
 use Rattle.book.specs.Entry.{Entry, Holds}
 use Rattle.book.specs.Grammar.{head_in, numbers_in, form_text, text_of, entries_from, entries_of, Fits, FitAfter, Refused, Rejects, Judged, SaidBy, Accepts}
@@ -36,7 +36,7 @@ lines_complete es n (Some f ∷ ls) fit =
 
 rejects : (bs : List ℕ) (f : BookFault) → length bs ≤ most_bytes → Refused [] 1 bs f → Rejects f bs
 rejects bs fault.TooLong few o = absurd o.fault
-rejects bs (fault.Byte n) few o = (few, o)
+rejects bs (fault.Byte n at) few o = (few, o)
 rejects bs (fault.Shape n) few o = (few, o)
 rejects bs (fault.Form n) few o = (few, o)
 rejects bs (fault.Range n) few o = (few, o)

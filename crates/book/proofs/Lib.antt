@@ -13,3 +13,4 @@ pub mod Said
 pub mod Counting
 pub mod Cutting
 pub mod Digital
+pub mod Outside

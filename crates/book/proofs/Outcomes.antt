@@ -1,17 +1,17 @@
 -- What reading the lines of a text comes to, in the words of the grammar. Assumes nothing.
-use Rattle.std.proofs.Common.{◌≡◌, ℕ, ◌+◌, Bool, true, false, eqb, List, [], ◌∷◌, ◌++◌, length, Some, None, Ok, Err, Option, Result, sym, refl, ap, ◌∙◌, subst, ⊎_elim, arith}
+use Rattle.std.proofs.Common.{◌≡◌, ℕ, ◌+◌, Bool, true, false, cond, eqb, List, [], ◌∷◌, ◌++◌, length, Some, None, Ok, Err, Option, Result, sym, refl, ap, ◌∙◌, subst, ⊎_elim, arith}
 use Rattle.std.specs.List.{AllByRecursion}
 use Rattle.std.proofs.lemmas.List.{append-nil, append_assoc, nil_from_length}
 use Rattle.std.proofs.lemmas.Bool.{cond-true, cond-false, cases_Bool, eqb-true, eqb-false, true≢false}
-use Rattle.book.specs.declared.faults.BookFault.{BookFault}
-use Rattle.book.specs.declared.faults.BookFault.TheVariants as fault
-use Rattle.book.specs.declared.forms.Form.{Form}
-use Rattle.book.specs.Bytes.{line_end}
+use Rattle.book.specs.declared.book_fault.BookFault.{BookFault}
+use Rattle.book.specs.declared.book_fault.BookFault.TheVariants as fault
+use Rattle.book.specs.declared.form.Form.{Form}
+use Rattle.book.specs.Bytes.{allowed, first_outside, line_end}
 use Rattle.book.specs.Entry.{Entry, taken}
 use Rattle.book.specs.BookFault.{line_of}
 use Rattle.book.specs.Grammar.{form_text, text_of, entries_from, Fits, FitAfter, Stands, Faulty, Refused}
-use Rattle.book.specs.Reading.{clean, line_form, placed, at_end, cut, and_then, lines_from}
-use Rattle.book.proofs.Heading.{clean-sound, clean-bad, line_sound}
+use Rattle.book.specs.Reading.{unless_byte, line_form, placed, at_end, cut, and_then, lines_from}
+use Rattle.book.proofs.Heading.{clean-sound, first-bad, line_sound}
 use Rattle.book.proofs.Gluing.{Inner, glue, glue-cut, cut-inner, cut-some}
 use Rattle.book.proofs.Faulting.{Wrong, wrong_line, empty_line}
 
@@ -70,11 +70,9 @@ refused_here es n l rest e inner at wrong =
       fault = subst (λ x. Faulty x l true e) (sym (append-nil es)) wrong;
     }
 
-last_outcome : (es : List Entry) (n : ℕ) (l : List ℕ) → AllByRecursion Inner l → Outcome es n l (at_end es n l)
-unfolding Outcome
-last_outcome es n l inner =
-    let at : (e : BookFault) → line_of e ≡ n → Faulty es l false e → Refused es n l e =
-    λ e here wrong.
+-- the bytes without an end are the faulty line
+refused_last : (es : List Entry) (n : ℕ) (l : List ℕ) (e : BookFault) → AllByRecursion Inner l → line_of e ≡ n → Faulty es l false e → Refused es n l e
+refused_last es n l e inner at wrong =
     record {
       before = [];
       fit = tt;
@@ -82,18 +80,23 @@ last_outcome es n l inner =
       ended = false;
       whole = inner;
       stands = refl;
-      number = here ∙ omega arith;
+      number = at ∙ omega arith;
       fault = subst (λ x. Faulty x l false e) (sym (append-nil es)) wrong;
     }
-    in
+
+last_byte : (es : List Entry) (n : ℕ) (l : List ℕ) (o : Option ℕ) → AllByRecursion Inner l → first_outside allowed l ≡ o → Outcome es n l (unless_byte n o (cond (eqb (length l) 0) (Ok es) (Err (fault.Shape n))))
+unfolding Outcome
+last_byte es n l (Some at) inner bad = refused_last es n l (fault.Byte n at) inner refl (first-bad l at bad)
+last_byte es n l None inner ok =
     ⊎_elim
-    (λ ok.
-    ⊎_elim
-    (λ none. subst (Outcome es n l) (sym (cond-true _ _ _ ok ∙ cond-true _ _ _ none)) ([], nil_from_length l (eqb-true _ _ none), tt, sym (append-nil es)))
-    (λ some. subst (Outcome es n l) (sym (cond-true _ _ _ ok ∙ cond-false _ _ _ some)) (at (fault.Shape n) refl (clean-sound l ok, (λ empty. eqb-false _ _ some (ap length empty)), λ ended. absurd (true≢false (sym ended)))))
-    (cases_Bool (eqb (length l) 0)))
-    (λ bad. subst (Outcome es n l) (sym (cond-false _ _ _ bad)) (at (fault.Byte n) refl (clean-bad l bad)))
-    (cases_Bool (clean l))
+    (λ none. subst (Outcome es n l) (sym (cond-true _ _ _ none)) ([], nil_from_length l (eqb-true _ _ none), tt, sym (append-nil es)))
+    (λ some.
+    subst (Outcome es n l) (sym (cond-false _ _ _ some))
+    (refused_last es n l (fault.Shape n) inner refl (clean-sound l ok, (λ empty. eqb-false _ _ some (ap length empty)), λ ended. absurd (true≢false (sym ended)))))
+    (cases_Bool (eqb (length l) 0))
+
+last_outcome : (es : List Entry) (n : ℕ) (l : List ℕ) → AllByRecursion Inner l → Outcome es n l (at_end es n l)
+last_outcome es n l inner = last_byte es n l (first_outside allowed l) inner refl
 
 -- a line with its end, before lines that come to something
 line_outcome : (es : List Entry) (n : ℕ) (l bs : List ℕ) (more : List Entry → Result (List Entry) BookFault) (q : Result (Option Form) BookFault) → AllByRecursion Inner l → ((fs : List Entry) → Outcome fs (n + 1) bs (more fs)) → q ≡ line_form n l → Outcome es n (l ++ line_end ∷ bs) (and_then (placed es n q) more)

@@ -1,8 +1,8 @@
 -- What the entries say once one more is added. Assumes nothing.
-use Rattle.std.proofs.Common.{◌≡◌, ℕ, ◌<◌, true, cond, not, ◌&&◌, eqb, List, [], ◌∷◌, ◌++◌, is_some, is_ok, Some, None, vec_items, Option, Result, sym, refl, ap, ◌∙◌, subst, ⊎_elim}
+use Rattle.std.proofs.Common.{◌≡◌, ℕ, ◌<◌, true, cond, not, ◌&&◌, eqb, List, [], ◌∷◌, ◌++◌, is_some, is_ok, Some, None, Option, Result, sym, refl, ap, ◌∙◌, subst, ⊎_elim}
 use Rattle.std.proofs.lemmas.List.{append-nil, append_assoc}
 use Rattle.std.proofs.lemmas.Bool.{cond-true, cond-false, cases_eq, eq-eqb, ne_eqb, true≢false}
-use Rattle.book.specs.declared.forms.Form.{Form}
+use Rattle.book.specs.declared.form.Form.{Form}
 use Rattle.book.specs.declared.record.BookWire.{BookWire}
 use Rattle.book.specs.declared.record.Book.{Book}
 use Rattle.book.specs.Entry.{Entry, first_said, said, wire_of, wires_of, Holds, keys_of, pipes_of, knob_of, scope_of}
@@ -70,10 +70,10 @@ module _ (b : Book) (es : List Entry) (h : Holds b es) (e : Entry) where
   pub pistons-stay : ((p : ℕ) → scope_of p e.form ≡ None) → (p : ℕ) → p < pistons → place_at b.pistons p ≡ said (scope_of p) (es ++ e ∷ [])
   pistons-stay silent = same_table pistons scope_of es e b.pistons silent h.pistons
 
-  pub wires-stay : wire_of e ≡ [] → vec_items b.wires ≡ wires_of (es ++ e ∷ [])
+  pub wires-stay : wire_of e ≡ [] → b.wires.items ≡ wires_of (es ++ e ∷ [])
   wires-stay none = no_wire es e _ none h.wires
 
-  pub wires-grow : (ws : List BookWire) (w : BookWire) → ws ≡ vec_items b.wires ++ w ∷ [] → wire_of e ≡ w ∷ [] → ws ≡ wires_of (es ++ e ∷ [])
+  pub wires-grow : (ws : List BookWire) (w : BookWire) → ws ≡ b.wires.items ++ w ∷ [] → wire_of e ≡ w ∷ [] → ws ≡ wires_of (es ++ e ∷ [])
   wires-grow ws w is one = is ∙ (λ i. h.wires i ++ sym one i) ∙ sym (wires-push es e)
 
 -- a place is refused where the entries say something of it

@@ -1,8 +1,8 @@
 -- What a book's record answers. Assumes nothing.
 use Rattle.std.specs.Prelude.{ℕ, Bool, true, false, cond, List, None, Option, nat_lt}
 use Rattle.std.specs.Option.{unwrap_or}
-use Rattle.book.specs.declared.forms.Board.{Board}
-use Rattle.book.specs.declared.forms.Board.TheVariants.{Coupler, Stop}
+use Rattle.book.specs.declared.board.Board.{Board}
+use Rattle.book.specs.declared.board.Board.TheVariants.{Coupler, Stop}
 use Rattle.book.specs.declared.record.Book.{Book}
 use Rattle.book.specs.declared.record.BookWire.{BookWire}
 use Rattle.book.specs.Limits.{rows, knobs, pistons}

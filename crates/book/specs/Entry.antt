@@ -1,7 +1,7 @@
 -- What a book's forms say, each with its line: the meaning of a book. Assumes nothing.
-use Rattle.std.specs.Prelude.{◌≡◌, ℕ, ◌<◌, ◌≤◌, Bool, cond, List, [], ◌∷◌, ◌++◌, length, is_some, Some, None, vec_items, Option, ◌==◌, nat_le}
-use Rattle.book.specs.declared.forms.Form.{Form}
-use Rattle.book.specs.declared.forms.Form.TheVariants as form
+use Rattle.std.specs.Prelude.{◌≡◌, ℕ, ◌<◌, ◌≤◌, Bool, cond, List, [], ◌∷◌, ◌++◌, length, is_some, Some, None, Option, ◌==◌, nat_le}
+use Rattle.book.specs.declared.form.Form.{Form}
+use Rattle.book.specs.declared.form.Form.TheVariants as form
 use Rattle.book.specs.declared.record.Book.{Book}
 use Rattle.book.specs.declared.record.BookWire.{BookWire}
 use Rattle.book.specs.Limits.{rows, most_places, knobs, pistons, most_wires, Sound, Ordered}
@@ -82,4 +82,4 @@ pub record Holds (b : Book) (es : List Entry) : Type 0 where
   pub ranks : (r : ℕ) → r < rows → place_at b.ranks r ≡ said (pipes_of r) es
   pub knobs : (k : ℕ) → k < knobs → place_at b.knobs k ≡ said (knob_of k) es
   pub pistons : (p : ℕ) → p < pistons → place_at b.pistons p ≡ said (scope_of p) es
-  pub wires : vec_items b.wires ≡ wires_of es
+  pub wires : b.wires.items ≡ wires_of es

@@ -1,12 +1,12 @@
 -- The forms of a book, from their words and numbers. Assumes nothing.
 use Rattle.std.specs.Prelude.{ℕ, ◌-◌, cond, ◌&&◌, List, ℤ, pos, negsuc, Some, None, Option, ◌==◌, nat_le, slice_index_or}
-use Rattle.book.specs.declared.forms.Board.{Board}
-use Rattle.book.specs.declared.forms.Board.TheVariants.{Coupler, Stop}
-use Rattle.book.specs.declared.forms.Form.{Form}
-use Rattle.book.specs.declared.forms.Head.{Head}
+use Rattle.book.specs.declared.board.Board.{Board}
+use Rattle.book.specs.declared.board.Board.TheVariants.{Coupler, Stop}
+use Rattle.book.specs.declared.form.Form.{Form}
+use Rattle.book.specs.declared.head.Head.{Head}
 use Rattle.book.specs.Limits.{rows, most_places, knobs, least_steps, most_steps, pistons}
-use Rattle.book.specs.declared.forms.Head.TheVariants as head
-use Rattle.book.specs.declared.forms.Form.TheVariants as form
+use Rattle.book.specs.declared.head.Head.TheVariants as head
+use Rattle.book.specs.declared.form.Form.TheVariants as form
 
 -- x, if a number is there, handed on
 abbrev pub given : {X Y : Type 0} → Option X → (X → Option Y) → Option Y

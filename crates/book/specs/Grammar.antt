@@ -1,16 +1,16 @@
 -- A book as a text: what a form looks like, what a text of forms is, and when it is a good book. Assumes nothing.
-use Rattle.std.specs.Prelude.{◌≡◌, ℕ, ◌+◌, ◌<◌, ◌≤◌, Bool, true, false, List, [], ◌∷◌, ◌++◌, length, ℤ, pos, negsuc, Some, None, Ok, Err, Option, Result, ◌≢◌, slice_index}
+use Rattle.std.specs.Prelude.{◌≡◌, ℕ, ◌+◌, ◌<◌, ◌≤◌, Bool, true, false, List, [], ◌∷◌, ◌++◌, length, ℤ, pos, negsuc, Some, None, Ok, Err, Option, Result, ◌≢◌, slice_index, take}
 use Rattle.std.specs.List.{flat_map, AllByRecursion}
 use Rattle.std.specs.Fmt.{signed_decimal}
-use Rattle.book.specs.declared.faults.BookFault.{BookFault}
-use Rattle.book.specs.declared.faults.BookFault.TheVariants as fault
+use Rattle.book.specs.declared.book_fault.BookFault.{BookFault}
+use Rattle.book.specs.declared.book_fault.BookFault.TheVariants as fault
 use Rattle.book.specs.declared.record.Book.{Book}
-use Rattle.book.specs.declared.forms.Board.{Board}
-use Rattle.book.specs.declared.forms.Board.TheVariants.{Coupler, Stop}
-use Rattle.book.specs.declared.forms.Form.{Form}
-use Rattle.book.specs.declared.forms.Form.TheVariants as form
-use Rattle.book.specs.declared.forms.Head.{Head}
-use Rattle.book.specs.declared.forms.Head.TheVariants as head
+use Rattle.book.specs.declared.board.Board.{Board}
+use Rattle.book.specs.declared.board.Board.TheVariants.{Coupler, Stop}
+use Rattle.book.specs.declared.form.Form.{Form}
+use Rattle.book.specs.declared.form.Form.TheVariants as form
+use Rattle.book.specs.declared.head.Head.{Head}
+use Rattle.book.specs.declared.head.Head.TheVariants as head
 use Rattle.book.specs.Bytes.{allowed, letter, space, opening, closing, line_end}
 use Rattle.book.specs.Entry.{Entry, Holds, InRange, taken}
 use Rattle.book.specs.Head.{spelling, takes}
@@ -97,10 +97,10 @@ abbrev pub Stands : List ℕ → List ℕ → List ℕ → Bool → Type 0
 Stands bs front l true = (rest : List ℕ) × (bs ≡ front ++ (l ++ line_end ∷ rest))
 Stands bs front l false = bs ≡ front ++ l
 
--- what is wrong with a line after the entries es; a line without its end is at most of the wrong shape
+-- what is wrong with a line after the entries es: a byte is the first that no line may hold; a line without its end is at most of the wrong shape
 abbrev pub Faulty : List Entry → List ℕ → Bool → BookFault → Type 0
 Faulty es l ended fault.TooLong = ⊥
-Faulty es l ended (fault.Byte n) = (k : ℕ) × (k < length l) × (allowed (slice_index l k) ≡ false)
+Faulty es l ended (fault.Byte n at) = (at < length l) × (allowed (slice_index l at) ≡ false) × AllByRecursion (λ b. allowed b ≡ true) (take at l)
 Faulty es l ended (fault.Shape n) =
     AllByRecursion (λ b. allowed b ≡ true) l × (l ≢ []) × (ended ≡ true → (w : List ℕ) (zs : List ℤ) → Word w → AllByRecursion Short zs → l ≢ written w zs)
 Faulty es l ended (fault.Form n) =
@@ -124,7 +124,7 @@ pub record Refused (es : List Entry) (n : ℕ) (bs : List ℕ) (f : BookFault) :
 -- a book is refused as too long, or for its first faulty line
 abbrev pub Rejects : BookFault → List ℕ → Type 0
 Rejects fault.TooLong bs = most_bytes < length bs
-Rejects (fault.Byte n) bs = (length bs ≤ most_bytes) × Refused [] 1 bs (fault.Byte n)
+Rejects (fault.Byte n at) bs = (length bs ≤ most_bytes) × Refused [] 1 bs (fault.Byte n at)
 Rejects (fault.Shape n) bs = (length bs ≤ most_bytes) × Refused [] 1 bs (fault.Shape n)
 Rejects (fault.Form n) bs = (length bs ≤ most_bytes) × Refused [] 1 bs (fault.Form n)
 Rejects (fault.Range n) bs = (length bs ≤ most_bytes) × Refused [] 1 bs (fault.Range n)

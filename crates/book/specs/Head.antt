@@ -1,8 +1,8 @@
 -- The words of a book, and how many numbers each takes. Assumes nothing.
 use Rattle.std.specs.Prelude.{ℕ, cond, List, Some, None, codes, Option}
 use Rattle.std.specs.Str.{bytes_eq}
-use Rattle.book.specs.declared.forms.Head.{Head}
-use Rattle.book.specs.declared.forms.Head.TheVariants.{Keys, Rank, Knob, Piston, Wire}
+use Rattle.book.specs.declared.head.Head.{Head}
+use Rattle.book.specs.declared.head.Head.TheVariants.{Keys, Rank, Knob, Piston, Wire}
 
 abbrev pub spelling : Head → List ℕ
 spelling Keys = codes "keys"

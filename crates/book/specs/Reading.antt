@@ -1,21 +1,21 @@
 -- What reading a book answers, for every list of bytes. Assumes nothing.
-use Rattle.std.specs.Prelude.{◌≡◌, ℕ, ◌+◌, Bool, cond, List, [], ◌∷◌, ◌++◌, length, ℤ, Some, None, Ok, Err, Option, Result, ◌==◌, nat_lt}
-use Rattle.std.specs.List.{list_all}
-use Rattle.book.specs.declared.faults.BookFault.{BookFault}
-use Rattle.book.specs.declared.faults.BookFault.TheVariants as fault
-use Rattle.book.specs.declared.forms.Form.{Form}
-use Rattle.book.specs.declared.forms.Head.{Head}
+use Rattle.std.specs.Prelude.{◌≡◌, ℕ, ◌+◌, cond, List, [], ◌∷◌, ◌++◌, length, ℤ, Some, None, Ok, Err, Option, Result, ◌==◌, nat_lt}
+use Rattle.book.specs.declared.book_fault.BookFault.{BookFault}
+use Rattle.book.specs.declared.book_fault.BookFault.TheVariants as fault
+use Rattle.book.specs.declared.form.Form.{Form}
+use Rattle.book.specs.declared.head.Head.{Head}
 use Rattle.book.specs.declared.record.Book.{Book}
-use Rattle.book.specs.Bytes.{allowed, line_end}
+use Rattle.book.specs.Bytes.{allowed, first_outside, line_end}
 use Rattle.book.specs.Entry.{Entry, Holds, taken}
 use Rattle.book.specs.Form.{form_from}
 use Rattle.book.specs.Head.{head_of, takes}
 use Rattle.book.specs.Limits.{most_bytes}
 use Rattle.book.specs.Pieces.{Shape, shape_of}
 
--- every byte of the line is one that a book may hold
-abbrev pub clean : List ℕ → Bool
-clean l = list_all allowed l
+-- line n comes to r, unless a byte stands in it that no line may hold
+abbrev pub unless_byte : {X : Type 0} → ℕ → Option ℕ → Result X BookFault → Result X BookFault
+unless_byte n None r = r
+unless_byte n (Some at) r = Err (fault.Byte n at)
 
 -- the form of a word and its numbers, on line n
 abbrev pub in_range : ℕ → Option Form → Result Form BookFault
@@ -42,7 +42,7 @@ shaped n (Some s) = some_form (form_of n s)
 
 -- line n: empty, one form, or the first of its faults
 abbrev pub line_form : ℕ → List ℕ → Result (Option Form) BookFault
-line_form n l = cond (clean l) (cond (length l == 0) (Ok None) (shaped n (shape_of l))) (Err (fault.Byte n))
+line_form n l = unless_byte n (first_outside allowed l) (cond (length l == 0) (Ok None) (shaped n (shape_of l)))
 
 -- the entries with what line n adds
 abbrev pub placed : List Entry → ℕ → Result (Option Form) BookFault → Result (List Entry) BookFault
@@ -55,7 +55,7 @@ with_line es n l = placed es n (line_form n l)
 
 -- what follows the last line end: nothing, or a line that is not ended
 abbrev pub at_end : List Entry → ℕ → List ℕ → Result (List Entry) BookFault
-at_end es n l = cond (clean l) (cond (length l == 0) (Ok es) (Err (fault.Shape n))) (Err (fault.Byte n))
+at_end es n l = unless_byte n (first_outside allowed l) (cond (length l == 0) (Ok es) (Err (fault.Shape n)))
 
 -- a text cut at its line ends: the lines, and last what follows the last line end
 abbrev pub onto_first : ℕ → List (List ℕ) → List (List ℕ)

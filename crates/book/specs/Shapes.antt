@@ -1,6 +1,6 @@
 -- What is kept of a line's word and numbers. Assumes nothing.
 use Rattle.std.specs.Prelude.{◌≡◌, ℕ, List, take, ℤ, Some, None, Option}
-use Rattle.book.specs.declared.shapes.Parts.{Parts}
+use Rattle.book.specs.declared.parts.Parts.{Parts}
 use Rattle.arrayvec.specs.ArrayVec.{ArrayVec}
 use Rattle.book.specs.Limits.{most_kept}
 use Rattle.book.specs.Pieces.{Shape}

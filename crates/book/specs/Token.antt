@@ -2,9 +2,9 @@
 use Rattle.std.specs.Prelude.{◌≡◌, ℕ, Bool, true, false, ◌&&◌, ◌||◌, List, [], ◌∷◌, ◌++◌, ◌≢◌, take, drop, Some, None, Option, ◌==◌}
 use Rattle.std.specs.List.{prefix_len}
 use denote.Ref.{Bor}
-use Rattle.book.specs.declared.lexing.Token.{Token}
-use Rattle.book.specs.declared.lexing.Token.TheVariants.{Open, Word, Number, Close}
-use Rattle.book.specs.declared.lexing.Lexed.{Lexed}
+use Rattle.book.specs.declared.token.Token.{Token}
+use Rattle.book.specs.declared.token.Token.TheVariants.{Open, Word, Number, Close}
+use Rattle.book.specs.declared.token.Lexed.{Lexed}
 use Rattle.book.specs.Bytes.{space, opening, closing}
 use Rattle.book.specs.Pieces.{Kind, Piece, run, mark, letters, figures, pieces}
 

@@ -1,24 +1,23 @@
 //! Reads organ books: the text in which a fitter describes an organ, and the record that it comes to.
 #![tactic(auto)]
 
-mod asking;
+mod board;
+mod book_fault;
 mod classes;
-mod faults;
-mod filling;
-mod forms;
-mod lexing;
+mod form;
+mod head;
 mod limits;
-mod lines;
 mod numerals;
+mod parts;
 mod passage;
-mod reading;
 mod record;
-mod shapes;
 mod tables;
+mod token;
+mod unknown;
 
-pub use faults::BookFault;
+pub use board::Board;
+pub use book_fault::BookFault;
 pub use fittings::{Knob, Scope, Wire};
-pub use forms::{Board, Unknown};
 pub use limits::{KNOBS, MOST_BYTES, MOST_WIRES, PISTONS, ROWS};
-pub use reading::BookReader;
 pub use record::{Book, BookWire};
+pub use unknown::Unknown;

@@ -3,34 +3,30 @@
 
 #[cfg(test)]
 mod tests {
-    use book::{Board, BookReader, Unknown};
-    use std::alloc::{AllocError, Global};
+    use book::{Board, Book, BookFault, Unknown};
     use std::process::Abort;
     use std::test::Fail;
 
     // Nothing where the book is accepted, or the number and the line of its fault.
     type Judged = Result<(), (u8, usize)>;
 
-    fn judge(heap: Global, text: &[u8]) -> Result<Judged, AllocError> {
-        let read = BookReader::new(heap)?.read(text);
-        Ok(
-            read.map(|_| ())
-                .map_err(|fault| (fault.number(), fault.line())),
-        )
+    fn judge(text: &[u8]) -> Judged {
+        Book::read(text)
+            .map(|_| ())
+            .map_err(|fault| (fault.number(), fault.line()))
     }
 
     // a text, the number of its fault, and the line
     type Case = (&'static [u8], u8, usize);
 
-    fn run(rt: &impl Abort, heap: Global, cases: &[Case]) -> Result<(), Fail> {
+    fn run(rt: &impl Abort, cases: &[Case]) {
         for (text, number, line) in cases {
-            assert_eq!(rt; judge(heap, text)?, Err((*number, *line)));
+            assert_eq!(rt; judge(text), Err((*number, *line)));
         }
-        Ok(())
     }
 
     #[test]
-    fn good_books(rt: HostRuntime) -> Result<(), Fail> {
+    fn good_books(rt: HostRuntime) {
         let texts: [&'static [u8]; 12] = [
             b"",
             b"\n",
@@ -46,14 +42,13 @@ mod tests {
             b"\n(keys 0 61)\n\n(rank 0 73)\n\n",
         ];
         for text in texts {
-            assert_eq!(rt; judge(rt.alloc(), text)?, Ok(()));
+            assert_eq!(rt; judge(text), Ok(()));
         }
-        Ok(())
     }
 
     // A byte that no book holds comes before everything else in its line.
     #[test]
-    fn bytes(rt: HostRuntime) -> Result<(), Fail> {
+    fn bytes(rt: HostRuntime) {
         let cases: [Case; 10] = [
             (b"K", 32, 1),
             (b"(keys 0 61)\r\n", 32, 1),
@@ -66,11 +61,25 @@ mod tests {
             (b"(keys 0 61)\n(keys 0 61)\n(keys +1 61)", 36, 2),
             (b"(keys 0 61)\n(keys +1 61)", 32, 2),
         ];
-        run(&rt, rt.alloc(), &cases)
+        run(&rt, &cases);
+    }
+
+    // It is said where in its line the first such byte stands.
+    #[test]
+    fn places(rt: HostRuntime) {
+        let cases: [(&'static [u8], usize, usize); 4] = [
+            (b"K", 1, 0),
+            (b"(keys 0 61)\r\n", 1, 11),
+            (b"\n\n; a note\n", 3, 0),
+            (b"(keys 0 61)\n(knob\t#", 2, 5),
+        ];
+        for (text, line, at) in cases {
+            assert_eq!(rt; Book::read(text).err(), Some(BookFault::Byte { line, at }));
+        }
     }
 
     #[test]
-    fn shapes(rt: HostRuntime) -> Result<(), Fail> {
+    fn shapes(rt: HostRuntime) {
         let cases: [Case; 24] = [
             (b"(keys 0 61)", 33, 1),
             (b"\n(keys 0 61)\n ", 33, 3),
@@ -97,11 +106,11 @@ mod tests {
             (b"(keys 0 --61)\n", 33, 1),
             (b"(keys 0 six)\n", 33, 1),
         ];
-        run(&rt, rt.alloc(), &cases)
+        run(&rt, &cases);
     }
 
     #[test]
-    fn forms(rt: HostRuntime) -> Result<(), Fail> {
+    fn forms(rt: HostRuntime) {
         let cases: [Case; 12] = [
             (b"(key 0 61)\n", 34, 1),
             (b"(keyss 0 61)\n", 34, 1),
@@ -116,11 +125,11 @@ mod tests {
             (b"(wire 1 0 0 0 0 0 0 0 0)\n", 34, 1),
             (b"(keys 9999 -9999 0 0 0 0 0 0 0 0 0 0)\n", 34, 1),
         ];
-        run(&rt, rt.alloc(), &cases)
+        run(&rt, &cases);
     }
 
     #[test]
-    fn ranges(rt: HostRuntime) -> Result<(), Fail> {
+    fn ranges(rt: HostRuntime) {
         let cases: [Case; 24] = [
             (b"(keys 16 61)\n", 35, 1),
             (b"(keys 0 129)\n", 35, 1),
@@ -147,12 +156,12 @@ mod tests {
             (b"(wire 1 0 0 0 0 0 0 -1)\n", 35, 1),
             (b"(keys 0 61)\n(keys 0 129)\n", 35, 2),
         ];
-        run(&rt, rt.alloc(), &cases)
+        run(&rt, &cases);
     }
 
     // A row that is given with reach 0 is given too. The first faulty line decides.
     #[test]
-    fn repeats(rt: HostRuntime) -> Result<(), Fail> {
+    fn repeats(rt: HostRuntime) {
         let cases: [Case; 9] = [
             (b"(keys 0 61)\n(keys 0 61)\n", 36, 2),
             (b"(keys 0 0)\n(keys 0 61)\n", 36, 2),
@@ -164,21 +173,21 @@ mod tests {
             (b"(keys 16 61)\n(keys 0 61\n", 35, 1),
             (b"(key 16 61)\n(KEYS)\n", 34, 1),
         ];
-        run(&rt, rt.alloc(), &cases)
+        run(&rt, &cases);
     }
 
     #[test]
     fn long_books(rt: HostRuntime) -> Result<(), Fail> {
         let heap = rt.alloc();
         let full = b"\n".repeat(heap, 65536)?;
-        assert_eq!(rt; judge(heap, full.as_slice())?, Ok(()));
+        assert_eq!(rt; judge(full.as_slice()), Ok(()));
         let more = b"\n".repeat(heap, 65537)?;
-        assert_eq!(rt; judge(heap, more.as_slice())?, Err((31, 0)));
+        assert_eq!(rt; judge(more.as_slice()), Err((31, 0)));
         let bad = b"?".repeat(heap, 65537)?;
-        assert_eq!(rt; judge(heap, bad.as_slice())?, Err((31, 0)));
+        assert_eq!(rt; judge(bad.as_slice()), Err((31, 0)));
         let mut late = b"\n".repeat(heap, 65535)?;
         late.push(b'?')?;
-        assert_eq!(rt; judge(heap, late.as_slice())?, Err((32, 65536)));
+        assert_eq!(rt; judge(late.as_slice()), Err((32, 65536)));
         Ok(())
     }
 
@@ -186,25 +195,24 @@ mod tests {
     fn many_wires(rt: HostRuntime) -> Result<(), Fail> {
         let heap = rt.alloc();
         let full = b"(wire 1 0 0 0 0 0 0 0)\n".repeat(heap, 256)?;
-        assert_eq!(rt; judge(heap, full.as_slice())?, Ok(()));
+        assert_eq!(rt; judge(full.as_slice()), Ok(()));
         let more = b"(wire 2 0 0 0 0 0 0 0)\n".repeat(heap, 257)?;
-        assert_eq!(rt; judge(heap, more.as_slice())?, Err((36, 257)));
+        assert_eq!(rt; judge(more.as_slice()), Err((36, 257)));
         Ok(())
     }
 
     #[test]
-    fn boards(rt: HostRuntime) -> Result<(), Fail> {
+    fn boards(rt: HostRuntime) {
         assert_eq!(rt; Board::try_from(1), Ok(Board::Coupler));
         assert_eq!(rt; Board::try_from(2), Ok(Board::Stop));
         assert_eq!(rt; Board::try_from(3), Err(Unknown));
-        Ok(())
     }
 
     #[test]
     fn a_record(rt: HostRuntime) -> Result<(), Fail> {
         let text =
             b"(keys 1 61)\n(rank 2 73)\n(knob 4 3 1)\n(piston 5 1 4)\n\n(wire 2 1 0 60 2 -12 4 2)\n";
-        let book = BookReader::new(rt.alloc())?.read(text)?;
+        let book = Book::read(text)?;
         assert_eq!(rt; book.keys(1), 61);
         assert_eq!(rt; book.keys(2), 0);
         assert_eq!(rt; book.keys(16), 0);

@@ -1,8 +1,8 @@
 -- A small organ: one division of 61 keys over one rank of 73 pipes, a unison coupler and three stops. Assumes nothing.
 use Rattle.std.specs.Prelude.{ℕ, cond, List, [], ◌∷◌, ℤ, pos, Some, None, ◌==◌, nat_lt}
 use Rattle.chest.specs.Meaning.{Meaning}
-use Rattle.book.specs.declared.forms.Board.{Board}
-use Rattle.book.specs.declared.forms.Board.TheVariants.{Coupler, Stop}
+use Rattle.book.specs.declared.board.Board.{Board}
+use Rattle.book.specs.declared.board.Board.TheVariants.{Coupler, Stop}
 use Rattle.book.specs.declared.record.BookWire.{BookWire}
 use Rattle.fittings.specs.declared.Wire.{Wire}
 use Rattle.board.specs.declared.lead.Lead.{Lead}

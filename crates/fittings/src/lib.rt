@@ -41,7 +41,7 @@ pub struct Scope {
 
 /// A wire as it is offered to a board: as wide as a book can write it. Which of its numbers a board takes is the
 /// board's to say.
-#[derive(Clone, Copy, Debug, PartialEq)]
+#[derive(Clone, Copy, Debug, Default, PartialEq)]
 pub struct Wire {
     pub from: u16,
     pub lowest: u16,

@@ -3,7 +3,7 @@
 
 mod report;
 
-use book::{Board, Book, BookReader, KNOBS, Knob, PISTONS, ROWS, Scope};
+use book::{Board, Book, KNOBS, Knob, PISTONS, ROWS, Scope};
 use report::refusal;
 use std::io::ErrorKind;
 use std::process::ExitCode;
@@ -63,8 +63,7 @@ fn print_book(rt: &HostRuntime, book: &Book) -> io::Result<()> {
 
 fn main(rt: HostRuntime) -> anyhow::Result<ExitCode> {
     let text = book_text(&rt)?;
-    let reader = BookReader::new(rt.alloc())?;
-    match reader.read(text.as_slice()) {
+    match Book::read(text.as_slice()) {
         Ok(book) => {
             print_book(&rt, &book)?;
             Ok(ExitCode::SUCCESS)

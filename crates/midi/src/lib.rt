@@ -8,5 +8,4 @@ mod state;
 
 pub use laws::notes_law;
 pub use message::Message;
-pub use reader::{Reader, messages};
-pub use state::{Long, Short, State};
+pub use reader::Reader;

@@ -7,8 +7,9 @@ ghost use Rattle.midi.specs.State.{step, handed, state_after, sound, HasRead, Fe
 
 use crate::message::Message;
 use crate::state::State;
-use std::alloc::{AllocError, Global};
+use std::alloc::AllocError;
 
+/// Reads the bytes of a line as they come.
 #[derive(Drop)]
 pub struct Reader {
     state: State,
@@ -34,18 +35,19 @@ impl Reader {
         self.state.feed(byte)
     }
 
-    /// Reads the next bytes of the line and adds their messages to `out`. Room is made first, so that where
-    /// there is no memory nothing is read and nothing is lost.
+    /// Reads the next bytes of the line and adds their messages to `out`. Room for one message a byte is made first, so
+    /// that where there is no memory nothing is read and nothing is lost.
     pub fn feed_all(&mut self, bytes: &[u8], out: &mut Vec<Message>) -> Result<(), AllocError>
         ensures items { out.new.items ≡ (if is_ok result then out.old.items ++ handed self.old.state bytes.now else out.old.items) }
         ensures after { self.new.state ≡ (if is_ok result then state_after self.old.state bytes.now else self.old.state) }
         ensures cases { MatchResult result (λ _. Feeds self.old.state bytes.now (handed self.old.state bytes.now) self.new.state) (λ _. vec_capacity out.old < vec_len out.old + length bytes.now) }
+        ensures succeeds { vec_len out.old + length bytes.now ≤ vec_capacity out.old → is_ok result ≡ true }
         ensures range { is_ok result ≡ true → AllByRecursion InRange (handed self.old.state bytes.now) }
         ensures whole { is_ok result ≡ true → HasRead self.old.state [] → out.new.items ≡ out.old.items ++ reading bytes.now }
         ensures law { is_ok result ≡ true → (old : List Message) (line : List ℕ) → CaughtUp old line self.old.state out.old.items → CaughtUp old (line ++ bytes.now) self.new.state out.new.items }
     {
         out.reserve(bytes.len())?;
-        // a loop: tried with `extend`, which does not promise that the room is enough, nor how its closure leaves the reader
+        // a loop, since `extend` does not promise that the room is enough, nor how its closure leaves the reader
         for byte in bytes {
             if let Some(message) = self.feed(*byte) {
                 out.push_reserved(message);
@@ -53,14 +55,4 @@ impl Reader {
         }
         Ok(())
     }
-}
-
-/// The messages of a whole line.
-pub fn messages(heap: Global, line: &[u8]) -> Result<Vec<Message>, AllocError>
-    ensures cases { MatchResult result (λ v. v.items ≡ reading line.now) (λ _. 0 < length line.now) }
-{
-    let mut out = Vec::new(heap);
-    let mut reader = Reader::new();
-    reader.feed_all(line, &mut out)?;
-    Ok(out)
 }

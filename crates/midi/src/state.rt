@@ -4,22 +4,22 @@ ghost use Rattle.midi.specs.State.{short_message, long_message, running, step};
 
 use crate::message::Message;
 
-/// Bytes below this one are data, the others status bytes.
-pub const FIRST_STATUS: u8 = 0x80;
+// Bytes below this one are data, the others status bytes.
+pub(crate) const FIRST_STATUS: u8 = 0x80;
 
-/// The status bytes from this one on are real-time.
-pub const FIRST_REAL_TIME: u8 = 0xf8;
+// The status bytes from this one on are real-time.
+pub(crate) const FIRST_REAL_TIME: u8 = 0xf8;
 
-/// The kinds of message that have one data byte.
+// The kinds of message that have one data byte.
 #[derive(Clone, Copy)]
-pub enum Short {
+pub(crate) enum Short {
     Program,
     ChannelPressure,
 }
 
-/// The kinds of message that have two.
+// The kinds of message that have two.
 #[derive(Clone, Copy)]
-pub enum Long {
+pub(crate) enum Long {
     NoteOff,
     NoteOn,
     KeyPressure,
@@ -27,16 +27,16 @@ pub enum Long {
     Bend,
 }
 
-/// What a reader is in the middle of; each number is a channel, a second one a data byte.
+// What a reader is in the middle of; each number is a channel, a second one a data byte.
 #[derive(Clone, Copy)]
-pub enum State {
-    /// no running status: data bytes are ignored
+pub(crate) enum State {
+    // no running status: data bytes are ignored
     Idle,
-    /// a running status of one data byte a message
+    // a running status of one data byte a message
     OneByte(Short, u8),
-    /// a running status of two data bytes a message, between two messages
+    // a running status of two data bytes a message, between two messages
     TwoBytes(Long, u8),
-    /// the same, with the first data byte of a message
+    // the same, with the first data byte of a message
     Half(Long, u8, u8),
 }
 
@@ -45,6 +45,7 @@ impl State {
     pub(crate) fn feed(&mut self, byte: u8) -> Option<Message>
         ensures value { (result, self.new) ≡ step self.old byte }
     {
+        // what a byte does depends on the reader's state and the byte together
         match (*self, byte) {
             (_, FIRST_REAL_TIME..) => None,
             (_, FIRST_STATUS..) => {

@@ -3,14 +3,15 @@
 
 #[cfg(test)]
 mod tests {
-    use midi::{Message, Reader, messages};
+    use midi::{Message, Reader};
     use std::alloc::Global;
     use std::process::Abort;
     use std::test::Fail;
 
     // The line gives just these messages, whole and cut in two at every place.
     fn reads(rt: &impl Abort, heap: Global, line: &[u8], expected: &[Message]) -> Result<(), Fail> {
-        let whole = messages(heap, line)?;
+        let mut whole = Vec::new(heap);
+        Reader::new().feed_all(line, &mut whole)?;
         assert_eq!(rt; whole.as_slice(), expected);
         for cut in 0..line.len() {
             let (front, rest) = line.split_at(cut);

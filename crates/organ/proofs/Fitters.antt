@@ -1,8 +1,8 @@
 -- One walk over the wires of a book is what a fitter says of it. Assumes nothing.
 use Rattle.std.proofs.Common.{◌≡◌, Bool, true, false, cond, List, [], ◌∷◌, ◌++◌, Ok, Err, Result, IfOk, sym, refl, ap, ◌∙◌, subst, append_assoc, append-nil}
 use Rattle.chest.specs.Meaning.{Meaning}
-use Rattle.book.specs.declared.forms.Board.{Board}
-use Rattle.book.specs.declared.forms.Board.TheVariants.{Coupler, Stop}
+use Rattle.book.specs.declared.board.Board.{Board}
+use Rattle.book.specs.declared.board.Board.TheVariants.{Coupler, Stop}
 use Rattle.book.specs.declared.record.BookWire.{BookWire}
 use Rattle.book.specs.Book.{same_board, on_board}
 use Rattle.book.proofs.Clash.{ok_err, err_same}

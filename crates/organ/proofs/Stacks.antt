@@ -2,8 +2,8 @@
 use Rattle.std.proofs.Common.{◌≡◌, ℕ, ◌+◌, Bool, true, false, cond, ltb, List, [], ◌∷◌, Ok, Err, Result, sym, refl, ap, ◌∙◌, subst, MatchResult}
 use Rattle.chest.specs.Places.{none}
 use Rattle.chest.specs.Meaning.{Meaning, with_register}
-use Rattle.book.specs.declared.forms.Board.{Board}
-use Rattle.book.specs.declared.forms.Board.TheVariants.{Coupler, Stop}
+use Rattle.book.specs.declared.board.Board.{Board}
+use Rattle.book.specs.declared.board.Board.TheVariants.{Coupler, Stop}
 use Rattle.book.specs.declared.record.BookWire.{BookWire}
 use Rattle.board.specs.declared.board.RelayBoard.{RelayBoard}
 use Rattle.board.specs.declared.fault.BoardFault.{BoardFault}

@@ -2,8 +2,8 @@
 use Rattle.std.specs.Prelude.{◌≡◌, ℕ, List, [], ◌∷◌, ◌++◌, Ok, Err, Result}
 use Rattle.chest.specs.Places.{none}
 use Rattle.chest.specs.Meaning.{Meaning}
-use Rattle.book.specs.declared.forms.Board.{Board}
-use Rattle.book.specs.declared.forms.Board.TheVariants.{Coupler, Stop}
+use Rattle.book.specs.declared.board.Board.{Board}
+use Rattle.book.specs.declared.board.Board.TheVariants.{Coupler, Stop}
 use Rattle.book.specs.declared.record.BookWire.{BookWire}
 use Rattle.board.specs.declared.board.RelayBoard.{RelayBoard}
 use Rattle.board.specs.declared.fault.BoardFault.{BoardFault}

@@ -1,8 +1,8 @@
 -- Assembling in a fitter's words: one wire after the other, each offered to its board as it then stands. Assumes nothing.
 use Rattle.std.specs.Prelude.{◌≡◌, cond, List, [], ◌∷◌, ◌++◌, Ok, Err, Result, IfOk, ◌↔◌}
 use Rattle.chest.specs.Meaning.{Meaning}
-use Rattle.book.specs.declared.forms.Board.{Board}
-use Rattle.book.specs.declared.forms.Board.TheVariants.{Coupler, Stop}
+use Rattle.book.specs.declared.board.Board.{Board}
+use Rattle.book.specs.declared.board.Board.TheVariants.{Coupler, Stop}
 use Rattle.book.specs.declared.record.BookWire.{BookWire}
 use Rattle.book.specs.Book.{on_board}
 use Rattle.board.specs.declared.board.RelayBoard.{RelayBoard}

@@ -1,7 +1,7 @@
 -- One board's pass over the wires of a book: a stack is put together one board after the other. Assumes nothing.
 use Rattle.std.specs.Prelude.{ℕ, ◌+◌, cond, List, [], ◌∷◌, Ok, Err, Result, nat_lt}
 use Rattle.chest.specs.Meaning.{Meaning}
-use Rattle.book.specs.declared.forms.Board.{Board}
+use Rattle.book.specs.declared.board.Board.{Board}
 use Rattle.book.specs.declared.record.BookWire.{BookWire}
 use Rattle.book.specs.Book.{on_board}
 use Rattle.board.specs.declared.fault.BoardFault.{BoardFault}

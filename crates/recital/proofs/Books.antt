@@ -3,7 +3,7 @@ use Rattle.std.proofs.Common.{◌≡◌, ℕ, ◌+◌, ◌≤◌, List, [], ◌�
 use Rattle.std.proofs.ByRecursion.{All-weaker}
 use Rattle.std.proofs.lemmas.List.{append-nil, append_assoc}
 use Rattle.std.proofs.lemmas.Bool.{cond-false, le-ltb}
-use Rattle.book.specs.declared.forms.Form.{Form}
+use Rattle.book.specs.declared.form.Form.{Form}
 use Rattle.book.specs.Entry.{Entry}
 use Rattle.book.specs.Grammar.{head_in, numbers_in, form_text, text_of, entries_from, entries_of, Fits, FitAfter, Good}
 use Rattle.book.specs.Head.{spelling}

@@ -1,7 +1,7 @@
 -- A book that was read, and what is listed for it. Assumes nothing.
 use Rattle.std.proofs.Common.{◌≡◌, ℕ, cond, List, ◌++◌, is_ok, IfOk, IsErrAnd, Ok, Err, Result, sym, refl, ap, ◌∙◌, subst}
 use Rattle.chest.specs.Meaning.{Meaning}
-use Rattle.book.specs.declared.faults.BookFault.{BookFault}
+use Rattle.book.specs.declared.book_fault.BookFault.{BookFault}
 use Rattle.book.specs.declared.record.Book.{Book}
 use Rattle.book.specs.Book.{keys_in}
 use Rattle.book.specs.Entry.{Entry}

@@ -6,7 +6,7 @@ use Rattle.chest.specs.Meaning.{Meaning}
 use Rattle.midi.specs.declared.message.Message.{Message}
 use Rattle.midi.specs.Reading.{reading}
 use Rattle.midi.specs.State.{HasRead}
-use Rattle.book.specs.declared.faults.BookFault.{BookFault}
+use Rattle.book.specs.declared.book_fault.BookFault.{BookFault}
 use Rattle.book.specs.declared.record.Book.{Book}
 use Rattle.book.specs.Book.{pipes_in}
 use Rattle.book.specs.Entry.{Entry as Written, Holds}
@@ -64,13 +64,13 @@ module _ (s : Setup) where
 
     model_more : (a : Action) (o : Outcome) → IsOf a o → (es : List Entry) (p : Model) → map (λ e. e.call) es ≡ call_in o ++ flat_map call_in os → last_model s p es ≡ model_after s (action_after s p a) ms
     model_more Nothing silent is es p calls = rest es p calls
-    model_more Nothing low is es p calls = absurd is
+    model_more Nothing (low e k) is es p calls = absurd is
     model_more Nothing (did call r) is es p calls = absurd is
     model_more (Perform c) silent is es p calls = absurd is
-    model_more (Perform c) low is es p calls = absurd is
+    model_more (Perform c) (low e k) is es p calls = absurd is
     model_more (Perform c) (did call r) is es p calls = called call es p calls ∙ ap (λ x. model_after s (after s p x) ms) is
     model_more (LowNote d n) silent is es p calls = absurd is
-    model_more (LowNote d n) low is es p calls = rest es p calls
+    model_more (LowNote d n) (low e k) is es p calls = rest es p calls
     model_more (LowNote d n) (did call r) is es p calls = absurd is
 
   models : (ms : List Message) (os : List Outcome) → AreOf ms os → SameModel ms os

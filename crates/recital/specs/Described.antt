@@ -1,5 +1,5 @@
 -- The organ that the forms of a book describe, and the same by the book's record. Assumes nothing.
-use Rattle.std.specs.Prelude.{ℕ, cond, List, None, vec_items, Option, Result, nat_lt}
+use Rattle.std.specs.Prelude.{ℕ, cond, List, None, Option, Result, nat_lt}
 use Rattle.std.specs.Option.{option_map, unwrap_or}
 use Rattle.chest.specs.Meaning.{Meaning}
 use Rattle.book.specs.declared.record.Book.{Book}
@@ -47,7 +47,7 @@ stack_said es h = stack_meaning (keys_said es) (new_ranks (pipes_said es)) h
 
 -- the same of the record
 abbrev pub book_hung : Book → Result Hung Refusal
-book_hung b = hang_all (keys_in b) (new_ranks (pipes_in b)) (vec_items b.wires)
+book_hung b = hang_all (keys_in b) (new_ranks (pipes_in b)) (b.wires.items)
 
 abbrev pub book_stack : Book → Hung → Meaning
 book_stack b h = stack_meaning (keys_in b) (new_ranks (pipes_in b)) h

@@ -4,7 +4,7 @@ use Rattle.chest.specs.Places.{changed}
 use Rattle.chest.specs.Meaning.{Meaning}
 use Rattle.midi.specs.declared.message.Message.{Message}
 use Rattle.midi.specs.Reading.{reading}
-use Rattle.book.specs.declared.faults.BookFault.{BookFault}
+use Rattle.book.specs.declared.book_fault.BookFault.{BookFault}
 use Rattle.book.specs.Entry.{Entry}
 use Rattle.book.specs.Reading.{read_of}
 use Rattle.console.specs.declared.call.Call.{Call}

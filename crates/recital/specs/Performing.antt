@@ -3,8 +3,8 @@ use Rattle.std.specs.Prelude.{◌≡◌, ℕ, List, ◌++◌, map, Ok, Err, Opti
 use Rattle.std.specs.List.{flat_map}
 use Rattle.chest.specs.Meaning.{Meaning}
 use Rattle.midi.specs.Reading.{reading}
-use Rattle.book.specs.declared.faults.BookFault.{BookFault}
-use Rattle.book.specs.declared.forms.Form.{Form}
+use Rattle.book.specs.declared.book_fault.BookFault.{BookFault}
+use Rattle.book.specs.declared.form.Form.{Form}
 use Rattle.book.specs.Entry.{Entry as Written}
 use Rattle.book.specs.Grammar.{text_of, entries_of, Good, Rejects}
 use Rattle.book.specs.Reading.{read_of}

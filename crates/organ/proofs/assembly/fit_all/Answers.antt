@@ -1,9 +1,9 @@
 -- A wire is passed over, fitted or refused, and all are fitted.
 use denote.Enum.Bare.{sameb}
 use Rattle.std.proofs.Common.{◌≡◌, ◌+◌, get_or, drop, Ok, sym, refl, ap, ◌∙◌, subst, rules, OnOk}
-use Rattle.book.specs.contracts.forms.Board.{the_type}
-use Rattle.book.specs.declared.forms.Board.{Board}
-use Rattle.book.specs.declared.forms.Board.TheVariants.{Coupler, Stop}
+use Rattle.book.specs.contracts.board.Board.{the_type}
+use Rattle.book.specs.declared.board.Board.{Board}
+use Rattle.book.specs.declared.board.Board.TheVariants.{Coupler, Stop}
 use Rattle.book.specs.Book.{same_board}
 use Rattle.board.specs.RelayBoard.{Settled}
 use Rattle.board.specs.Layout.{layout, with_wire}

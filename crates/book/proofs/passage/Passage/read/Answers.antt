@@ -11,4 +11,4 @@ returns c =
     let text = c.args.self.text.now in
     let shape = subst (λ o. Shapes line o (shape_of text)) c.in_ok-parts.ensures.ok_part c.read_shape.ensures in
     let mapped : c.map.result ≡ some_form c.read_form.result = search rules in
-    mapped ∙ line_shaped line text c.in_ok-parts.parts c.read_form.result (sym c.is_clean.ensures ∙ c.if-not-is_clean.false) (false-eqb _ 0 c.if-is_empty.ensures) shape c.read_form.ensures
+    mapped ∙ line_shaped line text c.in_ok-parts.parts c.read_form.result (sym c.in_default.is ∙ c.first_outside.ensures) (false-eqb _ 0 c.if-is_empty.ensures) shape c.read_form.ensures

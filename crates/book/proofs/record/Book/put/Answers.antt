@@ -81,5 +81,5 @@ returns-else-len-ge-MOST_WIRES-clause-after c es h done =
       ranks = ranks_stay _ es h e (λ j. ap (pipes_of j) is);
       knobs = knobs-stay _ es h e (λ j. ap (knob_of j) is);
       pistons = pistons-stay _ es h e (λ j. ap (scope_of j) is);
-      wires = wires-grow _ es h e _ _ c.push_reserved.ensures.items (ap (λ f. wire_of (record { line = c.args.line; form = f })) is);
+      wires = wires-grow _ es h e _ _ c.push.ensures.items (ap (λ f. wire_of (record { line = c.args.line; form = f })) is);
     }

@@ -38,6 +38,7 @@ returns c =
       items = items;
       after = after;
       cases = fed;
+      succeeds = λ _. refl;
       range = λ _. handed-range c.args.self.now.state c.args.bytes.now c.args.self.now.ok;
       whole = λ _ new. items ∙ ap (λ l. vec_items c.args.out.now ++ l) (sym (fed.adds [] new));
       law = λ _ old line. catches_up _ _ _ _ _ _ fed items old line;
