@@ -6,5 +6,5 @@ mod performing;
 mod playing;
 
 pub use laws::listing_law;
-pub use performing::{perform, perform_with};
+pub use performing::perform;
 pub use playing::{MagnetRecital, Recital};

@@ -5,39 +5,18 @@ ghost use Rattle.recital.specs.Performing.{Performed};
 ghost use Rattle.organ.specs.Line.{HasRoom};
 
 use crate::playing::MagnetRecital;
-use book::BookReader;
-use std::alloc::{AllocError, Global};
+use std::alloc::AllocError;
 
-/// Reads a book's text, plays its organ from the bytes of a line, and adds to the listing what each call came to;
+/// Reads a book's text, plays its organ from the bytes of a MIDI line, and adds to the listing what each call came to;
 /// or adds the line of the text's fault, or that of the first wire that its board refuses.
-pub fn perform_with(
-    reader: BookReader,
-    text: &[u8],
-    line: &[u8],
-    listing: &mut Vec<u8>,
-) -> Result<(), AllocError>
+pub fn perform(text: &[u8], line: &[u8], listing: &mut Vec<u8>) -> Result<(), AllocError>
     ensures performs { OnOk result (Performed text.now line.now listing.old.items listing.new.items) }
     ensures items { OnOk result (listing.new.items ≡ listing.old.items ++ listing_of text.now line.now) }
     ensures same { OnErr result (listing.new.items ≡ listing.old.items) }
     ensures succeeds { HasRoom listing.old (length line.now + 1) → is_ok result ≡ true }
 {
-    match MagnetRecital::open_text(reader, text) {
+    match MagnetRecital::open_text(text) {
         Ok(mut recital) => recital.play(line, listing),
         Err(refused) => refused.add_to(listing),
     }
-}
-
-/// The same with a new reader of books.
-pub fn perform(
-    heap: Global,
-    text: &[u8],
-    line: &[u8],
-    listing: &mut Vec<u8>,
-) -> Result<(), AllocError>
-    ensures performs { OnOk result (Performed text.now line.now listing.old.items listing.new.items) }
-    ensures items { OnOk result (listing.new.items ≡ listing.old.items ++ listing_of text.now line.now) }
-    ensures same { OnErr result (listing.new.items ≡ listing.old.items) }
-{
-    let reader = BookReader::new(heap)?;
-    perform_with(reader, text, line, listing)
 }

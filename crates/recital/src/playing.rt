@@ -7,7 +7,7 @@ ghost use Rattle.recital.specs.Recital.{Hears, GoesOn, CaughtUp, ListsOn, Begins
 ghost use Rattle.recital.specs.Performing.{BeginsOn};
 ghost use Rattle.organ.specs.Line.{HasRoom, OneLineMore};
 
-use book::{Book, BookReader};
+use book::Book;
 use bottom::magnet_chest::MagnetChest;
 use chest::chest::Chest;
 use chest::sender::Sender;
@@ -108,11 +108,11 @@ impl Recital<Stack<MagnetChest>> {
 
     /// A recital on the organ of a book's text; or the one line that is listed for this text, whatever is played: that of
     /// its fault, or that of the first wire that its board refuses.
-    pub fn open_text(reader: BookReader, text: &[u8]) -> Result<MagnetRecital, Line>
+    pub fn open_text(text: &[u8]) -> Result<MagnetRecital, Line>
         ensures cases { BeginsOn text.now result }
         ensures law { IfOk result (λ q. CaughtUp magnet_stack_meaning MagnetStackSettled q text.now []) }
     {
-        let book = reader.read(text)?;
+        let book = Book::read(text)?;
         let recital = MagnetRecital::open(&book)?;
         Ok(recital)
     }

@@ -4,7 +4,7 @@ use Rattle.std.proofs.lemmas.Result.{IfOk-weaker}
 use Rattle.organ.specs.Line.{line_bytes}
 use Rattle.recital.specs.Performing.{Performs}
 use Rattle.recital.proofs.Judgements.{added, listing_law}
-use Rattle.recital.proofs.performing.perform_with.Goals as goal
+use Rattle.recital.proofs.performing.perform.Goals as goal
 
 pub returns-in-Err-clause-performs : goal.returns-in-Err-clause-performs
 returns-in-Err-clause-performs c =
