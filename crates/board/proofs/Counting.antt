@@ -14,7 +14,7 @@ use Rattle.board.specs.Wiring.{beneath, register, panel, wires, outlet, meets, s
 use Rattle.board.specs.Counts.{at_place, Fits, Moves, Room}
 use Rattle.board.proofs.Sums.{mixed, mixed_more, mixed-le, left_more}
 use Rattle.sets.specs.Numbers.{Numbers, nothing, PopsFirst}
-use Rattle.board.specs.Index.{blank, waits, waits_for}
+use Rattle.board.specs.Among.{blank, waits, waits_for}
 use Rattle.board.specs.declared.lead.Setting.{Setting}
 use Rattle.board.specs.declared.swing.Swing.TheVariants.{Starts, Stops}
 use Rattle.board.proofs.Ways.{Swung, through-one, through-put, through-swing, span-keys, leads-is}

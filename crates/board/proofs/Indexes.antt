@@ -12,7 +12,7 @@ use Rattle.chest.specs.Meaning.{Panel, knob_to}
 use Rattle.board.specs.Wires.{Reaches, live, stands, landing}
 use Rattle.board.specs.Wiring.{outlet}
 use Rattle.board.specs.declared.lead.Setting.{Setting}
-use Rattle.board.specs.Index.{leads_from, lands, waits, waits_for}
+use Rattle.board.specs.Among.{leads_from, lands, waits, waits_for}
 
 -- a number is put into one set of a table, or taken out
 pub table_put : (xs : List NumberSet) (at k number : ℕ) (on : Bool) (new d : NumberSet) → at < length xs → members new ≡ with_number (members (get_or xs at d)) number on → (i : ℕ) → members (get_or (set xs at new) k empty) i ≡ cond (eqb k at && eqb i number) on (members (get_or xs k empty) i)

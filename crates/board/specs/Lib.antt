@@ -1,7 +1,8 @@
 pub mod BoardFault
 pub mod Wires
-pub mod Index
-pub mod Indexed
+pub mod Among
+pub mod Outlets
+pub mod Waiting
 pub mod Swing
 pub mod Wiring
 pub mod Layout

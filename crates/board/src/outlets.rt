@@ -3,7 +3,7 @@ ghost use Rattle.std.specs.Prelude.{◌≡◌, ℕ, ◌<◌, ◌==◌, cond, ◌
 ghost use Rattle.sets.specs.Numbers.{nothing, both};
 ghost use Rattle.sets.specs.NumberSet.{members};
 ghost use Rattle.chest.specs.Reaches.{reaches_of};
-ghost use Rattle.board.specs.Index.{leads_from, lands, waits};
+ghost use Rattle.board.specs.Among.{leads_from, lands, waits};
 
 use crate::lead::Lead;
 use chest::chest::{PLACES, ROWS};
@@ -22,7 +22,7 @@ pub(crate) struct Outlets {
 }
 
 impl Outlets {
-    ghost use Rattle.board.specs.Indexed.{row_of, key_of};
+    ghost use Rattle.board.specs.Outlets.{row_of, key_of};
 
     pub(crate) fn none() -> Outlets
         ensures rows { (r : ℕ) → row_of result r ≡ nothing }

@@ -3,7 +3,7 @@ ghost use Rattle.std.specs.Prelude.{◌≡◌, ℕ, ◌<◌, ◌==◌, cond, ◌
 ghost use Rattle.sets.specs.Numbers.{nothing, both};
 ghost use Rattle.sets.specs.NumberSet.{members};
 ghost use Rattle.chest.specs.Reaches.{reaches_of};
-ghost use Rattle.board.specs.Index.{leads_from, lands, waits};
+ghost use Rattle.board.specs.Among.{leads_from, lands, waits};
 
 use crate::lead::Lead;
 use chest::chest::KNOBS;
@@ -17,7 +17,7 @@ pub(crate) struct Waiting {
 }
 
 impl Waiting {
-    ghost use Rattle.board.specs.Indexed.{waiting_of};
+    ghost use Rattle.board.specs.Waiting.{waiting_of};
 
     pub(crate) fn none() -> Waiting
         ensures { (k : ℕ) → waiting_of result k ≡ nothing }

@@ -4,8 +4,9 @@ ghost use Rattle.sets.specs.NumberSet.{members, empty};
 ghost use Rattle.chest.specs.Positions.{positions_of};
 ghost use Rattle.chest.specs.Reaches.{reaches_of};
 ghost use Rattle.board.specs.Wires.{live};
-ghost use Rattle.board.specs.Index.{among, leads_from, lands, waits};
-ghost use Rattle.board.specs.Indexed.{row_of, key_of, waiting_of};
+ghost use Rattle.board.specs.Among.{among, leads_from, lands, waits};
+ghost use Rattle.board.specs.Outlets.{row_of, key_of};
+ghost use Rattle.board.specs.Waiting.{waiting_of};
 
 use crate::lead::Lead;
 use crate::outlets::Outlets;
@@ -53,7 +54,7 @@ impl Wiring {
     ghost use Rattle.std.specs.Prelude.{is_some, Some};
     ghost use Rattle.chest.specs.Meaning.{knob_to};
     ghost use Rattle.board.specs.Fitting.{is_free};
-    ghost use Rattle.board.specs.Index.{blank};
+    ghost use Rattle.board.specs.Among.{blank};
     ghost use Rattle.board.specs.Layout.{layout, with_key, with_knob, with_wire};
     ghost use Rattle.board.specs.Making.{bare};
     ghost use Rattle.board.specs.Wires.{some};

@@ -4,7 +4,7 @@ use Rattle.chest.specs.Places.{put}
 use Rattle.sets.specs.NumberSet.{remaining}
 use Rattle.board.specs.Wires.{through}
 use Rattle.board.specs.Wiring.{beneath, register, panel, wires, outlet}
-use Rattle.board.specs.Index.{among}
+use Rattle.board.specs.Among.{among}
 use Rattle.board.specs.Swing.{starts}
 use Rattle.board.specs.Counts.{at_place}
 use Rattle.board.specs.Below.{Keeps}

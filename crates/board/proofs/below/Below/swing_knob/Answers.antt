@@ -3,7 +3,7 @@ use Rattle.std.proofs.Common.{◌≡◌, ◌+◌, cond, get_or, Some, None, sym,
 use Rattle.sets.specs.NumberSet.{remaining}
 use Rattle.board.specs.Wires.{span}
 use Rattle.board.specs.Wiring.{beneath, register, wires, swing}
-use Rattle.board.specs.Index.{waits}
+use Rattle.board.specs.Among.{waits}
 use Rattle.board.specs.Swing.{starts}
 use Rattle.board.specs.Counts.{at_place, Fits}
 use Rattle.board.proofs.Sums.{mixed_start, mixed_end, left_less}

@@ -4,7 +4,7 @@ use Rattle.chest.specs.Meaning.{knob_to}
 use Rattle.sets.specs.NumberSet.{remaining}
 use Rattle.board.specs.Wires.{through}
 use Rattle.board.specs.Wiring.{beneath, register, panel, wires}
-use Rattle.board.specs.Index.{among, waits}
+use Rattle.board.specs.Among.{among, waits}
 use Rattle.board.specs.Counts.{at_place}
 use Rattle.board.specs.Below.{Keeps}
 use Rattle.board.proofs.Sums.{mixed, left}

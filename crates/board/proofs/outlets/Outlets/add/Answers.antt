@@ -1,8 +1,8 @@
 -- The wire is added to its row.
 use Rattle.std.proofs.Common.{◌<◌, ◌&&◌, true, cond, eqb, get_or, sym, ap, ◌∙◌, subst}
 use Rattle.sets.specs.NumberSet.{members, empty}
-use Rattle.board.specs.Index.{leads_from}
-use Rattle.board.specs.Indexed.{row_of}
+use Rattle.board.specs.Among.{leads_from}
+use Rattle.board.specs.Outlets.{row_of}
 use Rattle.board.proofs.Indexes.{table_put, either_way}
 use Rattle.board.proofs.outlets.Outlets.add.Goals as goal
 

@@ -1,8 +1,8 @@
 -- The keys before `key` have the wire.
 use Rattle.std.proofs.Common.{◌≡◌, ℕ, ◌<◌, true, cond, ◌&&◌, eqb, ltb}
 use Rattle.chest.specs.Reaches.{reaches_of}
-use Rattle.board.specs.Index.{lands}
-use Rattle.board.specs.Indexed.{key_of}
+use Rattle.board.specs.Among.{lands}
+use Rattle.board.specs.Outlets.{key_of}
 use Rattle.board.proofs.outlets.Outlets.add_keys.Given as goal
 
 abbrev pub invariant-loop-key : goal.invariant-loop-key

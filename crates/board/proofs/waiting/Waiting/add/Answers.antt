@@ -1,8 +1,8 @@
 -- The wire is added to the knob that it waits for.
 use Rattle.std.proofs.Common.{◌≡◌, ◌<◌, ℕ, true, eqb, sym, ap, ◌∙◌, subst, arith}
 use Rattle.std.proofs.lemmas.Bool.Decides.{nat_tests}
-use Rattle.board.specs.Index.{waits, waits_for}
-use Rattle.board.specs.Indexed.{waiting_of}
+use Rattle.board.specs.Among.{waits, waits_for}
+use Rattle.board.specs.Waiting.{waiting_of}
 use Rattle.board.proofs.Indexes.{table_put, either_way}
 use Rattle.board.proofs.waiting.Waiting.add.Goals as goal
 

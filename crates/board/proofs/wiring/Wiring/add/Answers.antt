@@ -7,8 +7,9 @@ use Rattle.sets.specs.Numbers.{Numbers, with_number}
 use Rattle.board.specs.declared.lead.Lead.{Lead}
 use Rattle.board.specs.Wires.{live}
 use Rattle.board.specs.Wiring.{wires, beneath}
-use Rattle.board.specs.Index.{among, leads_from, lands, waits}
-use Rattle.board.specs.Indexed.{row_of, key_of, waiting_of}
+use Rattle.board.specs.Among.{among, leads_from, lands, waits}
+use Rattle.board.specs.Outlets.{row_of, key_of}
+use Rattle.board.specs.Waiting.{waiting_of}
 use Rattle.board.proofs.Among.{among_past, among_push}
 use Rattle.board.proofs.wiring.Wiring.add.Goals as goal
 

@@ -9,7 +9,7 @@ use Rattle.sets.specs.NumberSet.{members, empty}
 use Rattle.sets.specs.declared.set.NumberSet.{NumberSet}
 use Rattle.sets.proofs.Joined.{members_empty}
 use Rattle.board.specs.Wires.{live}
-use Rattle.board.specs.Index.{among, leads_from, lands, waits}
+use Rattle.board.specs.Among.{among, leads_from, lands, waits}
 use Rattle.board.proofs.wiring.Wiring.bare.Goals as goal
 
 -- no row has a key

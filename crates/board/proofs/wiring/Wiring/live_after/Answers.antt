@@ -10,7 +10,7 @@ use Rattle.board.proofs.Indexes.{live_same}
 use Rattle.sets.specs.NumberSet.{members, remaining}
 use Rattle.board.specs.Wires.{live}
 use Rattle.board.specs.Wiring.{panel, wires}
-use Rattle.board.specs.Index.{among, waits, blank}
+use Rattle.board.specs.Among.{among, waits, blank}
 use Rattle.board.proofs.Sums.{left_less}
 use Rattle.board.proofs.Among.{among_at, among_past, among_in, still_in, left_out}
 use Rattle.board.proofs.wiring.Wiring.live_after.Goals as goal

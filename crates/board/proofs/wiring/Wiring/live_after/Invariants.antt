@@ -5,7 +5,7 @@ use Rattle.chest.specs.Positions.{positions_of}
 use Rattle.sets.specs.NumberSet.{members, remaining}
 use Rattle.board.specs.Wires.{live}
 use Rattle.board.specs.Wiring.{panel, wires}
-use Rattle.board.specs.Index.{among, waits}
+use Rattle.board.specs.Among.{among, waits}
 use Rattle.board.proofs.Sums.{left}
 use Rattle.board.proofs.wiring.Wiring.live_after.Given as goal
 

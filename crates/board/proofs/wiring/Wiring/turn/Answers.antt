@@ -1,7 +1,7 @@
 use Rattle.std.proofs.Common.{sym, ap, ◌∙◌}
 use Rattle.board.specs.Wires.{live}
 use Rattle.board.specs.Wiring.{wires}
-use Rattle.board.specs.Index.{among}
+use Rattle.board.specs.Among.{among}
 use Rattle.board.proofs.wiring.Wiring.turn.Goals as goal
 
 pub invariant_of-self : goal.invariant_of-self

@@ -3,7 +3,7 @@ use Rattle.std.proofs.Common.{◌&&◌, ◌∙◌}
 use Rattle.sets.specs.Numbers.{both}
 use Rattle.board.specs.Wires.{live}
 use Rattle.board.specs.Wiring.{beneath, panel, wires}
-use Rattle.board.specs.Index.{among, leads_from, lands}
+use Rattle.board.specs.Among.{among, leads_from, lands}
 use Rattle.board.proofs.Among.{among_both}
 use Rattle.board.proofs.Indexes.{carries}
 use Rattle.board.proofs.wiring.Wiring.wires_from.Goals as goal
