@@ -6,11 +6,12 @@ use Rattle.fittings.proofs.Filled.{filled}
 use Rattle.chest.specs.Positions.{panel_of}
 
 -- a place below its reach put into a set whose places all are
-pub put-inside : (s t : Places) (reach : ℕ → ℕ) (row place : ℕ) (on : Bool) → t ≡ put s row place on → place < reach row → ((r p : ℕ) → s r p ≡ true → p < reach r) → (r p : ℕ) → t r p ≡ true → p < reach r
-put-inside s t reach row place on is low all r p h =
-    let there : put s row place on r p ≡ true = sym (ap (λ (f : Places). f r p) is) ∙ h in
-    let old = all r p in
-    let at : r ≡ row → reach r ≡ reach row = λ e. ap reach e in
+pub put-inside : (s t : Places) (reach : ℕ → ℕ) (row place r q : ℕ) (on : Bool) → t ≡ put s r q on → r ≡ row → q ≡ place → place < reach row → ((r p : ℕ) → s r p ≡ true → p < reach r) → (r p : ℕ) → t r p ≡ true → p < reach r
+put-inside s t reach row place r q on is er eq low all o p h =
+    let there : put s r q on o p ≡ true = sym (ap (λ (f : Places). f o p) is) ∙ h in
+    let old = all o p in
+    let first = ap reach er in
+    let at : o ≡ r → reach o ≡ reach r = λ e. ap reach e in
     grind (arith, nat_tests)
 
 -- every knob of a new chest stands at 0

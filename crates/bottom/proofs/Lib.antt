@@ -3,6 +3,6 @@ pub mod Tables
 pub mod Counted
 pub mod Kept
 pub mod Pending
-pub mod Draining
+pub mod CatchUpLemmas
 pub mod Receiver
 pub mod Runs

@@ -12,7 +12,7 @@ use Rattle.midi.specs.Reading.{reading, ReadsAs}
 use Rattle.midi.proofs.Notes.{note_on_reads, note_off_reads, reads_joined}
 use Rattle.bottom.specs.Drain.{count_of_places, holds, velocity, spelled, agreed, written_below, drained}
 use Rattle.bottom.specs.Receiver.{hears, heard, notes_after, Nearer, Towards, DrainLaw}
-use Rattle.bottom.proofs.Draining.{ahead}
+use Rattle.bottom.proofs.CatchUpLemmas.{ahead}
 use Rattle.bottom.proofs.Pending.{Turn, still, full, next, turn, written_none, agreed-push, length-spelled}
 
 heard-append : (notes : Places) (ms ns : List Message) → heard notes (ms ++ ns) ≡ heard (heard notes ms) ns

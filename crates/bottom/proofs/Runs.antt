@@ -4,7 +4,7 @@ use Rattle.std.proofs.lemmas.Bool.Decides.{nat_tests}
 use Rattle.chest.specs.Places.{Places}
 use Rattle.bottom.specs.declared.midi_chest.MidiChest.{MidiChest}
 use Rattle.bottom.specs.Drain.{count_of_places}
-use Rattle.bottom.specs.Draining.{UpTo}
+use Rattle.bottom.specs.CatchUp.{UpTo}
 use Rattle.bottom.specs.Foot.{foot_meaning}
 use Rattle.bottom.specs.PipeTable.{shown}
 use Rattle.bottom.specs.MidiChest.{midi_meaning, midi_sent, midi_drained}
@@ -17,7 +17,7 @@ shown-inside xs r p out = grind (arith, nat_tests)
 
 pub chest_law : (c : MidiChest) (room : ℕ) → DrainLaw (midi_meaning c).speaking (midi_sent c) (midi_drained c room).sent room (midi_drained c room).bytes
 chest_law c room =
-    drained-law (midi_sent c) (midi_meaning c).speaking room (shown-inside c.sent.bytes) (shown-inside c.foot.bits.speaking.bytes)
+    drained-law (midi_sent c) (midi_meaning c).speaking room (shown-inside c.sent) (shown-inside c.foot.pipes.speaking)
 
 -- the receiver of a run has what is sent
 run_has : {c : MidiChest} {line : List ℕ} → Run c line → notes_after line ≡ midi_sent c

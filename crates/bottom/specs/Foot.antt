@@ -12,9 +12,9 @@ abbrev pub foot_meaning : Foot → Meaning
 foot_meaning f =
     record {
       reach = reaches_of f.reaches;
-      register = shown f.bits.set.bytes;
+      register = shown f.pipes.set;
       panel = positions_of f.positions;
-      speaking = shown f.bits.speaking.bytes;
+      speaking = shown f.pipes.speaking;
       strobes = f.strobes;
       rule = λ panel register. register;
     }

@@ -7,4 +7,4 @@ pub mod MidiChest
 pub mod Receiver
 pub mod Run
 pub mod Sending
-pub mod Draining
+pub mod CatchUp

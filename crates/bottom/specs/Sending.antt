@@ -1,7 +1,7 @@
 -- What one sending of a MIDI chest is: all that its drain promises. Assumes nothing.
 use Rattle.std.specs.Prelude.{◌≡◌, ℕ, List, ◌++◌, length, take, drop}
 use Rattle.bottom.specs.declared.midi_chest.MidiChest.{MidiChest}
-use Rattle.bottom.specs.MidiChest.{midi_meaning, midi_sent, midi_drained}
+use Rattle.bottom.specs.MidiChest.{midi_meaning, midi_sent, foot_of, midi_drained}
 use Rattle.bottom.specs.Receiver.{DrainLaw}
 use Rattle.bottom.specs.Run.{Run}
 
@@ -10,6 +10,6 @@ pub record MidiSends (c : MidiChest) (before : List ℕ) (count : ℕ) (after : 
   pub answer : count ≡ length (midi_drained c (length before)).bytes
   pub items : after ≡ (midi_drained c (length before)).bytes ++ drop count before
   pub sent : midi_sent d ≡ (midi_drained c (length before)).sent
-  pub foot : d.foot ≡ c.foot
+  pub foot : foot_of d ≡ foot_of c
   pub law : DrainLaw (midi_meaning c).speaking (midi_sent c) (midi_sent d) (length before) (take count after)
   pub run : (line : List ℕ) → Run c line → Run d (line ++ take count after)

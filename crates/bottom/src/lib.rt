@@ -1,7 +1,7 @@
 //! The chests at the foot of a stack: one that works magnets, and one that sends MIDI.
 #![tactic(auto)]
 
-mod bits;
+mod catch_up;
 pub mod fault;
 mod foot;
 pub mod laws;

@@ -37,7 +37,7 @@ impl MagnetChest {
         if buffer.len() != BYTES {
             return Err(BufferFault::Length { len: buffer.len() });
         }
-        buffer.copy_from_slice(&self.foot.bits.speaking.bytes);
+        buffer.copy_from_slice(&self.foot.pipes.speaking);
         Ok(())
     }
 }

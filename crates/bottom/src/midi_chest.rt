@@ -1,26 +1,26 @@
 //! The MIDI chest: what changes among its speaking pipes is sent as notes to a receiver.
-ghost use Rattle.std.specs.Prelude.{◌≡◌, ℕ, List, [], OnErr};
+ghost use Rattle.std.specs.Prelude.{◌≡◌, ℕ, ◌≤◌, List, [], ◌++◌, length, take, drop, OnErr};
 ghost use Rattle.chest.specs.Places.{none, changed};
 ghost use Rattle.chest.specs.Meaning.{Becomes, set_answer, set_after, turn_answer, turn_after, strobe_after};
 ghost use Rattle.bottom.specs.Foot.{new_bottom};
-ghost use Rattle.bottom.specs.MidiChest.{midi_meaning, MidiSettled, midi_sent};
+ghost use Rattle.bottom.specs.MidiChest.{midi_meaning, MidiSettled, midi_sent, foot_of, NothingSent, midi_drained};
+ghost use Rattle.bottom.specs.Receiver.{DrainLaw};
 ghost use Rattle.bottom.specs.Run.{Run};
 ghost use Rattle.bottom.specs.Sending.{MidiSends};
 ghost use Rattle.std.proofs.Common.{rules};
 
+use crate::catch_up::catch_up;
 use crate::foot::Foot;
-use crate::pipe_table::PipeTable;
+use crate::pipe_table::BYTES;
 use chest::chest::{Chest, ROWS};
 use chest::fault::ChestFault;
 use chest::sender::Sender;
-
-mod drain;
 
 #[derive(Drop)]
 pub struct MidiChest {
     foot: Foot,
     // what the receiver was told of each pipe
-    sent: PipeTable,
+    sent: [u8; BYTES],
 }
 
 impl MidiChest {
@@ -33,8 +33,23 @@ impl MidiChest {
     {
         MidiChest {
             foot: Foot::new(reaches),
-            sent: PipeTable::none(),
+            sent: [0u8; BYTES],
         }
+    }
+
+    /// Writes a start or a stop for each pending pipe, by rising row and then place, while three more bytes fit.
+    pub fn drain(&mut self, out: &mut [u8]) -> usize
+        ensures answer { result ≡ length (midi_drained self.old (length out.old)).bytes }
+        ensures bound { result ≤ length out.new }
+        ensures items { out.new ≡ (midi_drained self.old (length out.old)).bytes ++ drop result out.old }
+        ensures sent { midi_sent self.new ≡ (midi_drained self.old (length out.old)).sent }
+        ensures same { foot_of self.new ≡ foot_of self.old }
+        ensures law { DrainLaw (midi_meaning self.old).speaking (midi_sent self.old) (midi_sent self.new) (length out.old) (take result out.new) }
+        ensures run { (line : List ℕ) → Run self.old line → Run self.new (line ++ take result out.new) }
+    {
+        // lent whole, so that a proof knows that it stays
+        let foot = &self.foot;
+        catch_up(&mut self.sent, &foot.pipes.speaking, out)
     }
 }
 
@@ -61,7 +76,7 @@ impl Chest for MidiChest {
         ensures answer { result ≡ set_answer (midi_meaning self.old) row place }
         ensures same { OnErr result (self.new ≡ self.old) }
         ensures after { Becomes midi_meaning MidiSettled self.old self.new (set_after (midi_meaning self.old) row place on) }
-        ensures sent { self.new.sent ≡ self.old.sent }
+        ensures sent { NothingSent self.old self.new }
         ensures run { (line : List ℕ) → Run self.old line → Run self.new line }
     {
         self.foot.set(row, place, on)
@@ -71,7 +86,7 @@ impl Chest for MidiChest {
         ensures answer { result ≡ turn_answer knob position }
         ensures same { OnErr result (self.new ≡ self.old) }
         ensures after { Becomes midi_meaning MidiSettled self.old self.new (turn_after (midi_meaning self.old) knob position) }
-        ensures sent { self.new.sent ≡ self.old.sent }
+        ensures sent { NothingSent self.old self.new }
         ensures run { (line : List ℕ) → Run self.old line → Run self.new line }
     {
         self.foot.turn(knob, position)
@@ -80,7 +95,7 @@ impl Chest for MidiChest {
     fn strobe(&mut self) -> u32
         ensures answer { result ≡ changed (midi_meaning self.old).speaking (midi_meaning self.new).speaking }
         ensures after { Becomes midi_meaning MidiSettled self.old self.new (strobe_after (midi_meaning self.old)) }
-        ensures sent { self.new.sent ≡ self.old.sent }
+        ensures sent { NothingSent self.old self.new }
         ensures run { (line : List ℕ) → Run self.old line → Run self.new line }
     {
         self.foot.strobe()

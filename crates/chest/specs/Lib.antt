@@ -2,5 +2,6 @@ pub mod ChestFault
 pub mod Places
 pub mod Reaches
 pub mod Positions
+pub mod Setting
 pub mod Meaning
 pub mod Walks

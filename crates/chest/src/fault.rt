@@ -15,7 +15,7 @@ pub enum ChestFault {
 }
 
 impl ChestFault {
-    /// The number under which it is documented, which is the product's own.
+    /// The number under which docs/FAULTS.md has it.
     pub fn number(self) -> u8
         ensures { result ≡ number_of self }
     {

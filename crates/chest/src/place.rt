@@ -4,6 +4,7 @@ ghost use Rattle.std.specs.Prelude.{◌≡◌, ◌+◌, ◌*◌, ◌<◌};
 use crate::chest::PLACES;
 
 /// A place that a chest can have: one of 128 in one of 16 rows.
+// public fields: a board's walk makes one for each way, and need not ask again what it knows
 #[derive(Clone, Copy)]
 pub struct Place {
     pub row: usize,

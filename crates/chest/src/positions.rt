@@ -1,5 +1,5 @@
-//! The positions of all knobs. Any table may be one: what keeps them below 16 is that a knob is turned by a `Setting`. They
-//! are no table of one type with `Reaches`, which refuse by other faults, have a bound and answer for places.
+//! The positions of all knobs. Any table may be one: what keeps them below 16 is that a knob is turned by a `Setting`. `Reaches`
+//! is a type of its own: it refuses by other faults, has a bound and answers for places.
 ghost use Rattle.std.specs.Prelude.{◌≡◌, ◌<◌};
 
 use crate::chest::KNOBS;
@@ -14,6 +14,7 @@ pub struct Positions {
 impl Positions {
     ghost use Rattle.chest.specs.Meaning.{knob_to};
     ghost use Rattle.chest.specs.Positions.{panel_of, positions_of, position_in};
+    ghost use Rattle.chest.specs.Setting.{knob_of, position_of};
 
     pub fn new(table: [u8; KNOBS]) -> Positions
         ensures { positions_of result ≡ panel_of table }
@@ -38,11 +39,11 @@ impl Positions {
         Ok(usize::from(*position))
     }
 
-    /// Turns a knob. A setting has one of 16 positions, so narrowing loses nothing, and `try_from` would add a case that
-    /// cannot be.
+    /// Turns a knob.
     pub fn turn(&mut self, to: Setting)
-        ensures { positions_of self.new ≡ knob_to (positions_of self.old) to.knob to.position }
+        ensures { positions_of self.new ≡ knob_to (positions_of self.old) (knob_of to) (position_of to) }
     {
-        self.table[to.knob] = to.position as u8;
+        // a position is below 16, so narrowing loses nothing
+        self.table[to.knob()] = to.position() as u8;
     }
 }

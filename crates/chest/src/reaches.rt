@@ -11,7 +11,7 @@ pub struct Reaches {
     ghost low: { (r : ℕ) → slice_index table r ≤ 128 },
 }
 
-// The most that a reach can be. As a constant of another type it is narrowed once, and 128 is a byte.
+// The most that a reach can be, as the byte that keeps it.
 const MOST: u8 = PLACES as u8;
 
 // Each number above 128 as 128.

@@ -10,7 +10,7 @@ use crate::place::Place;
 use crate::reaches::Reaches;
 use std::array;
 
-/// Which places are to be set. A trait, since of a closure a walk would have to ask that it can be called.
+/// Which places are to be set. A trait and no closure: a walk need not ask that it can be called.
 pub trait Rule {
     ghost set: { Self → Places };
 
@@ -47,8 +47,7 @@ pub fn clear<C: Chest>(chest: &mut C)
     }
 }
 
-// The reach of a row, 0 where there is none. A reach and a position are below 256, so narrowing loses nothing, and
-// `try_from` would add a case that cannot be.
+// The reach of a row, 0 where there is none. It is 128 at most, so narrowing loses nothing.
 fn reach_at<C: Chest>(chest: &C, row: usize) -> u8
     ensures value { result ≡ (C.meaning chest.now).reach row }
     ensures bound { result ≤ 128 }
@@ -56,7 +55,7 @@ fn reach_at<C: Chest>(chest: &C, row: usize) -> u8
     chest.reach(row).unwrap_or(0) as u8
 }
 
-// The position of a knob, 0 where there is none.
+// The position of a knob, 0 where there is none. It is below 16, so narrowing loses nothing.
 fn position_at<C: Chest>(chest: &C, knob: usize) -> u8
     ensures value { result ≡ (C.meaning chest.now).panel knob }
     ensures bound { result < 16 }

@@ -2,8 +2,7 @@
 use Rattle.std.proofs.Common.{◌≡◌, ℕ, ◌<◌, Some, arith}
 use Rattle.std.proofs.lemmas.Bool.Decides.{nat_tests}
 use Rattle.console.specs.declared.knob_table.KnobTable.{KnobTable}
-use Rattle.console.specs.KnobTable.{home_of}
-use Rattle.console.specs.Walks.{homes_of}
+use Rattle.console.specs.KnobTable.{home_of, homes_of}
 
 -- a home is a position
 pub home_low : (t : KnobTable) (k n : ℕ) → homes_of t k ≡ Some n → n < 16

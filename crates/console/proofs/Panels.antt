@@ -5,10 +5,10 @@ use Rattle.fittings.specs.declared.Scope.{Scope}
 use Rattle.chest.specs.Meaning.{Meaning, Panel, with_panel}
 use Rattle.console.specs.declared.fault.PlayFault.TheVariants.{Position}
 use Rattle.console.specs.declared.knob_table.KnobTable.{KnobTable}
-use Rattle.console.specs.KnobTable.{steps_of, home_of}
+use Rattle.console.specs.KnobTable.{steps_of, home_of, homes_of}
 use Rattle.console.specs.Model.{Setup, Memory, knob_check, homed, memory, recalled}
 use Rattle.console.specs.PistonTable.{within}
-use Rattle.console.specs.Walks.{knobs_turned, homes_of, frame_in}
+use Rattle.console.specs.Walks.{knobs_turned, frame_in}
 
 pub knob_passes : (o : Option ℕ) (k q n : ℕ) → o ≡ Some n → q < n → knob_check o k q ≡ Ok tt
 knob_passes o k q n e h = ap (λ x. knob_check x k q) e ∙ passes where

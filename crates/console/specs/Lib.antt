@@ -1,8 +1,8 @@
 pub mod PlayFault
 pub mod Keys
-pub mod Knobs
 pub mod KnobTable
 pub mod KeyTable
+pub mod Console
 pub mod PistonTable
 pub mod Model
 pub mod Record

@@ -1,10 +1,10 @@
 -- What the console's walks over the knobs of a chest leave. Assumes nothing.
 use Rattle.std.specs.Prelude.{◌≡◌, ℕ, ◌<◌, cond, ◌&&◌, is_some, List, Some, None, Option, nat_lt, slice_index}
-use Rattle.std.specs.Option.{option_map, unwrap_or}
+use Rattle.std.specs.Option.{unwrap_or}
 use Rattle.fittings.specs.declared.Scope.{Scope}
 use Rattle.chest.specs.Meaning.{Meaning, with_panel}
 use Rattle.console.specs.declared.knob_table.KnobTable.{KnobTable}
-use Rattle.console.specs.KnobTable.{knob_at, steps_of}
+use Rattle.console.specs.KnobTable.{steps_of}
 use Rattle.console.specs.PistonTable.{within}
 
 -- those of the first n knobs that have a position to go to turned
@@ -15,10 +15,6 @@ knobs_turned m to n = with_panel m (λ k. unwrap_or (cond (nat_lt k n) (to k) No
 pub record Turns (answers : ℕ → Option ℕ → Type 0) (to : ℕ → Option ℕ) : Type 0 where
   pub told : (k : ℕ) (o : Option ℕ) → k < 64 → answers k o → o ≡ to k
   pub positions : (k n : ℕ) → to k ≡ Some n → n < 16
-
--- the homes of the defined knobs
-abbrev pub homes_of : KnobTable → ℕ → Option ℕ
-homes_of t k = option_map (λ knob. knob.home) (knob_at t k)
 
 -- the positions of a frame at the defined knobs of a scope
 abbrev pub frame_in : KnobTable → Scope → List ℕ → ℕ → Option ℕ

@@ -1,5 +1,6 @@
 //! The console over any chest: its making and its eight calls.
 ghost use Rattle.std.specs.Prelude.{◌≡◌, ◌<◌, ◌≤◌, true, length, Ok, Err, IfOk, IfErr, OnErr};
+ghost use Rattle.console.specs.Console.{chest_of};
 ghost use Rattle.console.specs.Model.{key_check};
 ghost use Rattle.console.specs.Sending.{Sends, StillTracks, Linked};
 ghost use Rattle.console.specs.Tracks.{Follows, Makes};
@@ -59,7 +60,7 @@ impl<C: Chest> Console<C> {
 
     /// The chest that the console stands on, to be looked at.
     pub fn chest(&self) -> &C
-        ensures { result.now ≡ self.now.chest }
+        ensures { result.now ≡ chest_of self.now }
     {
         &self.chest
     }
@@ -124,8 +125,7 @@ impl<C: Chest> Console<C> {
         Ok(self.chest.strobe())
     }
 
-    /// Ends a division's sustain and lifts all its keys. Its last two lines are those of `sustain`: a function for them
-    /// would need a clause for each part of the console.
+    /// Ends a division's sustain and lifts all its keys.
     pub fn clear(&mut self, division: usize) -> Result<u32, PlayFault>
         ensures follows { Follows C.Chest.meaning C.Chest.settled self.old (Call.Clear division) result self.new }
         ensures same { OnErr result (self.new ≡ self.old) }
@@ -134,6 +134,7 @@ impl<C: Chest> Console<C> {
             return Err(PlayFault::Division { division });
         }
         self.keys.clear(division);
+        // as `sustain` ends: a function for these two lines needs a clause for each part of the console
         show_row(&mut self.chest, division, &self.keys);
         Ok(self.chest.strobe())
     }
@@ -143,7 +144,10 @@ impl<C: Chest> Console<C> {
         ensures follows { Follows C.Chest.meaning C.Chest.settled self.old (Call.Turn knob position) result self.new }
         ensures same { OnErr result (self.new ≡ self.old) }
     {
-        let steps = self.knobs.steps(knob).ok_or(PlayFault::Knob { knob })?;
+        // looked up first: a knob that is not there is fault 5, whatever the position
+        let Some(steps) = self.knobs.steps(knob) else {
+            return Err(PlayFault::Knob { knob });
+        };
         if position >= steps {
             return Err(PlayFault::Position { knob, position });
         }
@@ -195,7 +199,7 @@ impl<C: Sender> Console<C> {
     /// of the record: whatever model the console stood as, it stands as that.
     pub fn send(&mut self, buffer: &mut [u8]) -> usize
         ensures law { Sends C.Sender.sends self.old buffer.old result buffer.new self.new }
-        ensures same { C.Chest.meaning self.new.chest ≡ C.Chest.meaning self.old.chest }
+        ensures same { C.Chest.meaning (chest_of self.new) ≡ C.Chest.meaning (chest_of self.old) }
         ensures stands { StillTracks C.Chest.meaning C.Chest.settled self.old self.new }
         ensures links { Linked C.Chest.meaning C.Chest.settled self.old self.new }
         ensures bound { result ≤ length buffer.new }

@@ -23,7 +23,7 @@ pub enum PlayFault {
 }
 
 impl PlayFault {
-    /// The number under which it is documented, which is the product's own.
+    /// The number under which docs/FAULTS.md has it.
     pub fn number(self) -> u8
         ensures { result ≡ number_of self }
     {

@@ -1,8 +1,8 @@
 //! Walks over the knobs of a chest.
 ghost use Rattle.std.specs.Prelude.{◌≡◌, ℕ, ◌<◌, ◌&&◌, Some, None, Option};
 ghost use Rattle.chest.specs.Meaning.{Becomes};
-ghost use Rattle.console.specs.KnobTable.{home_of};
-ghost use Rattle.console.specs.Walks.{Turns, knobs_turned, homes_of, frame_in};
+ghost use Rattle.console.specs.KnobTable.{home_of, homes_of};
+ghost use Rattle.console.specs.Walks.{Turns, knobs_turned, frame_in};
 
 use crate::knob_table::KnobTable;
 use chest::chest::{Chest, KNOBS};
@@ -31,9 +31,7 @@ pub(crate) fn reset_knobs<C: Chest>(chest: &mut C, knobs: &KnobTable)
 pub(crate) fn home_knobs<C: Chest>(chest: &mut C, knobs: &KnobTable)
     ensures { Becomes C.meaning C.settled chest.old chest.new (knobs_turned (C.meaning chest.old) (homes_of knobs.now) 64) }
 {
-    turn_knobs(chest, |knob| {
-        knobs.knob(knob).map(|defined| usize::from(defined.home))
-    });
+    turn_knobs(chest, |knob| knobs.steps(knob).map(|_| knobs.home(knob)));
 }
 
 // Turns each knob of a scope that is defined to its position in a frame.
@@ -53,7 +51,7 @@ fn recalled(knobs: &KnobTable, scope: Scope, frame: &[u8; KNOBS], knob: usize) -
     ensures { result ≡ frame_in knobs.now scope frame.now knob }
 {
     let scope = usize::from(scope.lowest)..=usize::from(scope.highest);
-    if knobs.knob(knob).is_some() && scope.contains(&knob) {
+    if knobs.steps(knob).is_some() && scope.contains(&knob) {
         frame.get(knob).map(|position| usize::from(*position))
     } else {
         None

@@ -1,5 +1,5 @@
 use Rattle.std.proofs.Common.{rules}
-use Rattle.console.specs.Walks.{homes_of}
+use Rattle.console.specs.KnobTable.{homes_of}
 use Rattle.console.proofs.Homes.{home_low}
 use Rattle.console.proofs.walks.home_knobs.Goals as goal
 

@@ -1,4 +1,5 @@
--- How far a drain has come, for the functions inside it; no public contract cites this. Assumes nothing.
+-- How far the table of what was sent has caught up, for the functions inside a drain; no public contract cites this.
+-- Assumes nothing.
 use Rattle.std.specs.Prelude.{◌≡◌, ℕ, List, ◌++◌, length, take, drop}
 use Rattle.std.specs.List.{flat_map}
 use Rattle.chest.specs.Places.{Places}

@@ -2,9 +2,9 @@ use Rattle.std.proofs.Common.{◌≡◌, true, inl, inr, rules, arith}
 use Rattle.std.proofs.lemmas.Bool.Decides.{nat_tests}
 use Rattle.chest.specs.Places.{differ}
 use Rattle.bottom.specs.PipeTable.{shown}
-use Rattle.bottom.proofs.Draining.{place_stays, place_drained, none_more}
-use Rattle.bottom.proofs.pipe_table.PipeTable.catch_up_place.Goals as goal
-use Rattle.bottom.proofs.pipe_table.PipeTable.catch_up_place.Goals.{then-has-speaks-via-then-has-speaks, then-has-speaks-via-else-has-speaks+then-out-lt-MESSAGE}
+use Rattle.bottom.proofs.CatchUpLemmas.{place_stays, place_drained, none_more}
+use Rattle.bottom.proofs.catch_up.catch_up_place.Goals as goal
+use Rattle.bottom.proofs.catch_up.catch_up_place.Goals.{then-has-speaks-via-then-has-speaks, then-has-speaks-via-else-has-speaks+then-out-lt-MESSAGE}
 
 pub returns-then-has-speaks-clause-after : goal.returns-then-has-speaks-clause-after
 returns-then-has-speaks-clause-after c = λ start buffer front u.
@@ -15,6 +15,6 @@ returns-then-has-speaks-clause-after c = λ start buffer front u.
 
 pub returns-clause-after : goal.returns-clause-after
 returns-clause-after c =
-    let pending : differ (shown c.args.self.now.bytes c.args.at.row c.args.at.place) (shown c.args.speaking.now.bytes c.args.at.row c.args.at.place) ≡ true = grind (arith, nat_tests) in
+    let pending : differ (shown c.args.sent.now c.args.at.row c.args.at.place) (shown c.args.speaking.now c.args.at.row c.args.at.place) ≡ true = grind (arith, nat_tests) in
     λ start buffer front u.
     place_drained _ start buffer c.args.at.row c.args.at.place c.args.at.place_in _ front _ u _ _ (search rules) (search rules) pending c.if-out-lt-MESSAGE.false

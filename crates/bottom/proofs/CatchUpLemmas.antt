@@ -5,7 +5,7 @@ use Rattle.std.proofs.lemmas.List.{take_all, drop_all, drop-drop, flat_map_more,
 use Rattle.std.proofs.lemmas.Bool.Decides.{nat_tests}
 use Rattle.chest.specs.Places.{Places, put, differ}
 use Rattle.bottom.specs.Drain.{holds, message_bytes, spelled, agreed, written_below}
-use Rattle.bottom.specs.Draining.{Wrote, UpTo, GoesOn}
+use Rattle.bottom.specs.CatchUp.{Wrote, UpTo, GoesOn}
 use Rattle.bottom.proofs.Pending.{Turn, still, full, next, turn, written_none, written-still, written-full, written_next, agreed-push, length-spelled}
 
 -- what a place holds, by its number

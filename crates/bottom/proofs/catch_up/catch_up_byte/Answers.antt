@@ -1,6 +1,6 @@
 use Rattle.std.proofs.Common.{◌+◌, ◌*◌, refl, arith}
-use Rattle.bottom.proofs.Draining.{up_to_at, none_more, stretch_same, goes_then}
-use Rattle.bottom.proofs.pipe_table.PipeTable.catch_up_byte.Goals as goal
+use Rattle.bottom.proofs.CatchUpLemmas.{up_to_at, none_more, stretch_same, goes_then}
+use Rattle.bottom.proofs.catch_up.catch_up_byte.Goals as goal
 
 pub returns-then-agrees-clause-after : goal.returns-then-agrees-clause-after
 returns-then-agrees-clause-after c = λ start buffer front u.

@@ -1,6 +1,6 @@
 use Rattle.std.proofs.Common.{◌+◌, ◌-◌, ◌*◌, refl, arith, length-drop}
-use Rattle.bottom.proofs.Draining.{up_to_at, up_to_none, stretch_full, goes_then}
-use Rattle.bottom.proofs.pipe_table.PipeTable.catch_up.Goals as goal
+use Rattle.bottom.proofs.CatchUpLemmas.{up_to_at, up_to_none, stretch_full, goes_then}
+use Rattle.bottom.proofs.catch_up.catch_up.Goals as goal
 
 pub loop-byte-preserved : goal.loop-byte-preserved
 loop-byte-preserved c =
