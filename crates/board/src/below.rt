@@ -1,6 +1,7 @@
 //! The chest below a board, with the number of ways to each of its places: walks over the wires that keep the numbers
 //! right, and the chest with them, where a key is put or a knob turns.
 ghost use Rattle.std.specs.Prelude.{◌≡◌, ◌<◌, not, nat_lt};
+ghost use Rattle.chest.specs.Setting.{knob_of, position_of};
 ghost use Rattle.board.specs.Wires.{Reaches, span};
 ghost use Rattle.board.specs.Layout.{layout, with_key, with_knob};
 ghost use Rattle.board.specs.Swing.{starts};
@@ -87,11 +88,11 @@ impl<C: Chest> Below<C> {
     // The ways that the wires of a knob give and take, once that knob turns.
     pub(crate) fn swing_knob(&mut self, wiring: &Wiring, turn: Turn)
         requires exact { Exact self.old.ways (layout wiring.now) }
-        requires was { (layout wiring.now).panel turn.to.knob ≡ turn.from }
-        ensures exact { Exact self.new.ways (with_knob (layout wiring.now) turn.to.knob turn.to.position) }
+        requires was { (layout wiring.now).panel (knob_of turn.to) ≡ turn.from }
+        ensures exact { Exact self.new.ways (with_knob (layout wiring.now) (knob_of turn.to) (position_of turn.to)) }
         ensures keeps { Keeps C.Chest.meaning C.Chest.settled (layout wiring.now).below self.old self.new }
     {
-        let mut rest = wiring.waiting.of(turn.to.knob).rest();
+        let mut rest = wiring.waiting.of(turn.to.knob()).rest();
         while let Some(number) = rest.pop_first() {
             let w = wiring.lead(number);
             if let Some(swing) = w.swing(turn) {

@@ -28,6 +28,7 @@ pub struct RelayBoard<C> {
 impl<C: Chest> RelayBoard<C> {
     ghost use Rattle.std.specs.Prelude.{◌≡◌, ◌<◌, not, OnErr, OnOk};
     ghost use Rattle.chest.specs.Places.{none, put};
+    ghost use Rattle.chest.specs.Setting.{knob_of, position_of};
     ghost use Rattle.chest.specs.Meaning.{Becomes, with_register, with_panel, knob_to};
     ghost use Rattle.board.specs.Layout.{with_wire};
     ghost use Rattle.board.specs.RelayBoard.{meaning_of, Settled};
@@ -136,12 +137,12 @@ impl<C: Chest> RelayBoard<C> {
 
     // Turns a knob that stands elsewhere.
     fn move_knob(&mut self, turn: Turn)
-        requires { (layout self.old.wiring).panel turn.to.knob ≡ turn.from }
-        ensures { Becomes (meaning_of C.Chest.meaning) (Settled C.Chest.meaning C.Chest.settled) self.old self.new (with_panel (meaning_of C.Chest.meaning self.old) (knob_to (meaning_of C.Chest.meaning self.old).panel turn.to.knob turn.to.position)) }
+        requires { (layout self.old.wiring).panel (knob_of turn.to) ≡ turn.from }
+        ensures { Becomes (meaning_of C.Chest.meaning) (Settled C.Chest.meaning C.Chest.settled) self.old self.new (with_panel (meaning_of C.Chest.meaning self.old) (knob_to (meaning_of C.Chest.meaning self.old).panel (knob_of turn.to) (position_of turn.to))) }
     {
         self.below.swing_knob(&self.wiring, turn);
         self.wiring.turn(turn.to);
-        let _ = self.below.chest.turn(turn.to.knob, turn.to.position);
+        let _ = self.below.chest.turn(turn.to.knob(), turn.to.position());
     }
 }
 
@@ -177,8 +178,8 @@ impl<C: Chest> Chest for RelayBoard<C> {
 
     fn turn(&mut self, knob: usize, position: usize) -> Result<(), ChestFault> {
         let to = Setting::new(knob, position)?;
-        let from = self.wiring.position(to.knob);
-        if from != to.position {
+        let from = self.wiring.position(to.knob());
+        if from != to.position() {
             self.move_knob(Turn { from, to });
         }
         Ok(())

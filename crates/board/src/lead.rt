@@ -3,6 +3,7 @@ ghost use Rattle.std.specs.Prelude.{◌≡◌, ◌<◌, ◌&&◌, if◌then◌el
 ghost use Rattle.std.specs.Option.{option_map};
 ghost use Rattle.chest.specs.Positions.{positions_of};
 ghost use Rattle.chest.specs.Reaches.{reaches_of};
+ghost use Rattle.chest.specs.Setting.{knob_of, position_of};
 ghost use Rattle.board.specs.Fitting.{setting_of};
 ghost use Rattle.board.specs.Wires.{landing, live};
 ghost use Rattle.board.specs.Wiring.{swing};
@@ -56,15 +57,15 @@ pub(crate) struct Lead {
 impl Lead {
     // Whether the wire starts to be live, or stops, where a knob turns.
     pub(crate) fn swing(self, turn: Turn) -> Option<Swing>
-        ensures { result ≡ swing self turn.to.knob turn.from turn.to.position }
+        ensures { result ≡ swing self (knob_of turn.to) turn.from (position_of turn.to) }
     {
         let setting = self.setting?;
         let position = usize::from(setting.position);
-        if usize::from(setting.knob) != turn.to.knob {
+        if usize::from(setting.knob) != turn.to.knob() {
             None
         } else if position == turn.from {
             Some(Swing::Stops)
-        } else if position == turn.to.position {
+        } else if position == turn.to.position() {
             Some(Swing::Starts)
         } else {
             None

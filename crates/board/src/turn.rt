@@ -1,5 +1,6 @@
 //! A turn of a knob, as a board takes it.
 ghost use Rattle.std.specs.Prelude.{◌≢◌};
+ghost use Rattle.chest.specs.Setting.{position_of};
 
 use chest::setting::Setting;
 
@@ -8,5 +9,5 @@ use chest::setting::Setting;
 pub(crate) struct Turn {
     pub from: usize,
     pub to: Setting,
-    ghost turns: { from ≢ to.position },
+    ghost turns: { from ≢ position_of to },
 }

@@ -53,6 +53,7 @@ pub(crate) struct Wiring {
 impl Wiring {
     ghost use Rattle.std.specs.Prelude.{is_some, Some};
     ghost use Rattle.chest.specs.Meaning.{knob_to};
+    ghost use Rattle.chest.specs.Setting.{knob_of, position_of};
     ghost use Rattle.board.specs.Fitting.{is_free};
     ghost use Rattle.board.specs.Among.{blank};
     ghost use Rattle.board.specs.Layout.{layout, with_key, with_knob, with_wire};
@@ -128,12 +129,12 @@ impl Wiring {
 
     // The wires that are live once a knob is turned.
     pub(crate) fn live_after(&self, to: Setting) -> NumberSet
-        ensures { members result ≡ among (live (knob_to (panel self.now) to.knob to.position)) (wires self.now) }
+        ensures { members result ≡ among (live (knob_to (panel self.now) (knob_of to) (position_of to))) (wires self.now) }
     {
         let mut positions = self.positions;
         positions.turn(to);
         let mut live = self.live;
-        let mut rest = self.waiting.of(to.knob).rest();
+        let mut rest = self.waiting.of(to.knob()).rest();
         while let Some(number) = rest.pop_first() {
             live = live.with(number, self.lead(number).is_live(&positions));
         }
@@ -162,7 +163,7 @@ impl Wiring {
     }
 
     pub(crate) fn turn(&mut self, to: Setting)
-        ensures { layout self.new ≡ with_knob (layout self.old) to.knob to.position }
+        ensures { layout self.new ≡ with_knob (layout self.old) (knob_of to) (position_of to) }
     {
         self.live = self.live_after(to);
         self.positions.turn(to);

@@ -4,6 +4,7 @@ use Rattle.sets.specs.NumberSet.{remaining}
 use Rattle.board.specs.Wires.{span}
 use Rattle.board.specs.Wiring.{beneath, register, wires, swing}
 use Rattle.board.specs.Among.{waits}
+use Rattle.board.specs.Waiting.{waiting_of}
 use Rattle.board.specs.Swing.{starts}
 use Rattle.board.specs.Counts.{at_place, Fits}
 use Rattle.board.proofs.Sums.{mixed_start, mixed_end, left_less}
@@ -18,7 +19,7 @@ loop-number-init g c =
     let turn = c.args.turn in
     let knob = turn.to.knob in
     let s = remaining c.rest-rest.result in
-    let is = c.rest-rest.ensures ∙ c.of.ensures ∙ h.waits knob turn.to.knob_in in (
+    let is = c.rest-rest.ensures ∙ c.of.ensures ∙ ap (waiting_of h.waiting) c.knob.ensures.value ∙ h.waits knob turn.to.knob_in in (
       λ i left. sym (ap (λ x. x i) is) ∙ left,
       λ b q hb hq. c.requires.exact b q (hb, hq) ∙ sym (mixed_start (knob_new h knob turn.from turn.to.position b q) (knob_old h knob turn.from turn.to.position b q) (wires h) s h.few (λ i d l out. knob_same h knob turn.from turn.to.position b q c.requires.was turn.turns (get_or (wires h) i d) (left_out (waits knob) (wires h) s is i d l out))),
       keeps_same c.args.self.now,

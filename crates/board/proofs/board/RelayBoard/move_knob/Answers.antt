@@ -1,6 +1,6 @@
 -- The knob turns, and stands below.
 use Rattle.std.proofs.Common.{◌≡◌, sym, refl, ap, ◌∙◌, subst}
-use Rattle.chest.specs.Meaning.{Meaning, knob_to, with_panel, with_register}
+use Rattle.chest.specs.Meaning.{Meaning, knob_to, turn_after, with_panel, with_register}
 use Rattle.chest.proofs.Calls.{turn_done}
 use Rattle.board.specs.Layout.{layout, with_knob}
 use Rattle.board.specs.RelayBoard.{board_meaning, Stands}
@@ -28,5 +28,5 @@ returns g c = λ settled.
     let below = c.swing_knob.ensures.keeps.stands settled.0 settled.1.reach (below_is l m settled.1 ∙ sym (standing-image self.below.ways self.wiring.below l refl self.exact)) in
     let last = c.turn-2.ensures.after below.0 in
     let done = turn_board l m settled.1 turn.to.knob turn.to.position (layout c.turn.new.self) mid c.turn.ensures (below.1 ∙ ap (with_register m) (standing-image c.swing_knob.new.self.ways self.wiring.below new refl c.swing_knob.ensures.exact)) in
-    let whole = subst (λ y. Stands (layout c.turn.new.self) y × (board_meaning (layout c.turn.new.self) y ≡ after)) (sym (last.1 ∙ turn_done mid turn.to.knob turn.to.position turn.to.knob_in turn.to.position_in)) done in
+    let whole = subst (λ y. Stands (layout c.turn.new.self) y × (board_meaning (layout c.turn.new.self) y ≡ after)) (sym (last.1 ∙ (λ i. turn_after mid (c.knob.ensures.value i) (c.position.ensures.value i)) ∙ turn_done mid turn.to.knob turn.to.position turn.to.knob_in turn.to.position_in)) done in
     ((last.0, whole.0), whole.1)

@@ -10,6 +10,7 @@ use Rattle.board.proofs.Indexes.{live_same}
 use Rattle.sets.specs.NumberSet.{members, remaining}
 use Rattle.board.specs.Wires.{live}
 use Rattle.board.specs.Wiring.{panel, wires}
+use Rattle.board.specs.Waiting.{waiting_of}
 use Rattle.board.specs.Among.{among, waits, blank}
 use Rattle.board.proofs.Sums.{left_less}
 use Rattle.board.proofs.Among.{among_at, among_past, among_in, still_in, left_out}
@@ -52,7 +53,7 @@ loop-number-init c =
     let h = c.args.self.now in
     let to = c.args.to in
     let s = remaining c.rest-rest.result in
-    let is = c.rest-rest.ensures ∙ c.of.ensures ∙ h.waits to.knob to.knob_in in (
+    let is = c.rest-rest.ensures ∙ c.of.ensures ∙ ap (waiting_of h.waiting) c.knob.ensures.value ∙ h.waits to.knob to.knob_in in (
       λ i left. sym (ap (λ x. x i) is) ∙ left,
       λ i. ap (λ x. x i) h.alive ∙ start (panel h) to.knob to.position (wires h) s is (positions_of c.turn.new.self) c.turn.ensures i,
       c.turn.ensures,
