@@ -7,7 +7,7 @@ use Rattle.console.specs.declared.fault.PlayFault.TheVariants.{Position}
 use Rattle.console.specs.declared.knob_table.KnobTable.{KnobTable}
 use Rattle.console.specs.KnobTable.{steps_of, home_of, homes_of}
 use Rattle.console.specs.Model.{Setup, Memory, knob_check, homed, memory, recalled}
-use Rattle.console.specs.PistonTable.{within}
+use Rattle.console.specs.PistonTable.{in_scope}
 use Rattle.console.specs.Walks.{knobs_turned, frame_in}
 
 pub knob_passes : (o : Option ℕ) (k q n : ℕ) → o ≡ Some n → q < n → knob_check o k q ≡ Ok tt
@@ -42,7 +42,7 @@ homed-is m s knobs panel is-steps is_home is-panel = λ i. with_panel m (λ k. o
 pub memory_is : (s : Setup) (q : ℕ) (knobs : KnobTable) (scope : Scope) (frame : List ℕ) → steps_of knobs ≡ s.steps → s.scope q ≡ Some scope → frame_in knobs scope frame ≡ memory s (λ k. get_or frame k 0) q
 memory_is s q knobs scope frame is-steps is-scope =
     let taken : Some scope ≡ s.scope q = sym is-scope in
-    λ i k. cond (is_some (is-steps i k) && within (taken i) k) (Some (get_or frame k 0)) None
+    λ i k. cond (is_some (is-steps i k) && in_scope (taken i) k) (Some (get_or frame k 0)) None
 
 pub recalled-is : (m : Meaning) (s : Setup) (q : ℕ) (knobs : KnobTable) (scope : Scope) (frame : List ℕ) (panel : Panel) (o : Option Memory) → steps_of knobs ≡ s.steps → s.scope q ≡ Some scope → o ≡ Some (memory s (λ k. get_or frame k 0) q) → m.panel ≡ panel → knobs_turned m (frame_in knobs scope frame) 64 ≡ with_panel m (recalled o panel)
 recalled-is m s q knobs scope frame panel o is-steps is-scope is-stored is-panel =

@@ -9,7 +9,7 @@ use Rattle.console.specs.declared.fault.PlayFault.{PlayFault}
 use Rattle.console.specs.declared.fault.PlayFault.TheVariants.{Division, Key, KeyDown, KeyUp, Knob, Position, Piston, NeverCaptured}
 use Rattle.fittings.specs.declared.Scope.{Scope}
 use Rattle.console.specs.Keys.{Keys, no_keys, pressed, lifted, sustain_begun, sustain_ended, cleared}
-use Rattle.console.specs.PistonTable.{within}
+use Rattle.console.specs.PistonTable.{in_scope}
 
 -- reach: the keys of each division; steps: the steps of each knob, none where it is undefined; home: where a knob goes
 -- at the making and at a cancel; scope: the lowest and highest knob of each piston, none where it is undefined
@@ -42,7 +42,7 @@ homed s panel k = cond (is_some (s.steps k)) (s.home k) (panel k)
 
 -- the knobs of a piston: the defined ones in its scope
 abbrev pub takes : Setup → ℕ → ℕ → Bool
-takes s q k = is_some (s.steps k) && within (s.scope q) k
+takes s q k = is_some (s.steps k) && in_scope (s.scope q) k
 
 -- the positions of a piston's knobs
 abbrev pub memory : Setup → Panel → ℕ → Memory

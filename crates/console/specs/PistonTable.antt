@@ -18,10 +18,10 @@ abbrev pub frame_of : PistonTable → ℕ → Option (List ℕ)
 frame_of t q = option_and_then (λ piston. piston.frame) (piston_at t q)
 
 -- whether a knob lies in a scope
-abbrev pub within : Option Scope → ℕ → Bool
-within None k = false
-within (Some s) k = nat_le s.lowest k && nat_le k s.highest
+abbrev pub in_scope : Option Scope → ℕ → Bool
+in_scope None k = false
+in_scope (Some s) k = nat_le s.lowest k && nat_le k s.highest
 
--- whether a piston and its scope are in range
-abbrev pub in_range : ℕ → ℕ → ℕ → Bool
-in_range piston lowest highest = nat_lt piston 40 && (nat_le lowest highest && nat_lt highest 64)
+-- a lowest knob no higher than the highest, and both below 64
+abbrev pub sound_scope : ℕ → ℕ → Bool
+sound_scope lowest highest = nat_le lowest highest && nat_lt highest 64

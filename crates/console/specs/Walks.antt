@@ -5,7 +5,7 @@ use Rattle.fittings.specs.declared.Scope.{Scope}
 use Rattle.chest.specs.Meaning.{Meaning, with_panel}
 use Rattle.console.specs.declared.knob_table.KnobTable.{KnobTable}
 use Rattle.console.specs.KnobTable.{steps_of}
-use Rattle.console.specs.PistonTable.{within}
+use Rattle.console.specs.PistonTable.{in_scope}
 
 -- those of the first n knobs that have a position to go to turned
 abbrev pub knobs_turned : Meaning → (ℕ → Option ℕ) → ℕ → Meaning
@@ -18,4 +18,4 @@ pub record Turns (answers : ℕ → Option ℕ → Type 0) (to : ℕ → Option 
 
 -- the positions of a frame at the defined knobs of a scope
 abbrev pub frame_in : KnobTable → Scope → List ℕ → ℕ → Option ℕ
-frame_in t scope frame k = cond (is_some (steps_of t k) && within (Some scope) k) (Some (slice_index frame k)) None
+frame_in t scope frame k = cond (is_some (steps_of t k) && in_scope (Some scope) k) (Some (slice_index frame k)) None
