@@ -6,6 +6,7 @@ ghost use Rattle.book.specs.Form.{board_of, within};
 
 use crate::unknown::Unknown;
 
+/// The board that a wire is for.
 #[derive(Clone, Copy, Debug, Default, PartialEq)]
 pub enum Board {
     #[default]

@@ -24,7 +24,7 @@ pub enum BookFault {
 }
 
 impl BookFault {
-    /// The number under which the fault is documented.
+    /// The number under which docs/FAULTS.md has it.
     pub fn number(self) -> u8
         ensures { result ≡ number_of self }
     {

@@ -10,11 +10,11 @@ use crate::head::Head;
 use crate::limits::{KNOBS, LEAST_STEPS, MOST_PLACES, MOST_STEPS, PISTONS, ROWS};
 use fittings::Wire;
 
-/// The numbers of a knob and of a piston stand as a book writes them, and as the grammar's definitions do, which name each
-/// by its place; the record makes a `Knob` and a `Scope` of them. Keys and ranks are two cases, since a book has two words
-/// for them and `specs/` a meaning for each.
+// The numbers of a knob and of a piston stand as a book writes them, and as the grammar's definitions do, which name each
+// by its place; the record makes a `Knob` and a `Scope` of them. Keys and ranks are two cases, since a book has two words
+// for them and `specs/` a meaning for each.
 #[derive(Clone, Copy)]
-pub enum Form {
+pub(crate) enum Form {
     Keys { row: u8, reach: u8 },
     Rank { row: u8, reach: u8 },
     Knob { knob: u8, steps: u8, home: u8 },
@@ -84,8 +84,8 @@ fn wire_form(n: [i16; 8]) -> Option<Form>
 }
 
 impl Form {
-    /// The form of the head and its numbers, unless there are too many or too few, or one is out of its range.
-    pub fn new(head: Head, numbers: &[i16], line: usize) -> Result<Form, BookFault>
+    // The form of the head and its numbers, unless there are too many or too few, or one is out of its range.
+    pub(crate) fn new(head: Head, numbers: &[i16], line: usize) -> Result<Form, BookFault>
         ensures { result ≡ formed line head numbers.now }
     {
         let form = match (head, numbers) {

@@ -5,9 +5,9 @@ ghost use Rattle.book.specs.Head.{head_of};
 
 use crate::unknown::Unknown;
 
-/// The word of a form.
+// The word of a form.
 #[derive(Clone, Copy)]
-pub enum Head {
+pub(crate) enum Head {
     Keys,
     Rank,
     Knob,
@@ -22,6 +22,7 @@ impl TryFrom<&[u8]> for Head {
     ghost try_from_gives = { λ word head. result_ok head ≡ head_of word.now };
 
     fn try_from(word: &[u8]) -> Result<Head, Unknown> {
+        // each word is a fixed byte string
         match word {
             b"keys" => Ok(Head::Keys),
             b"rank" => Ok(Head::Rank),

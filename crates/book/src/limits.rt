@@ -1,13 +1,17 @@
 //! The sizes that a book is held to.
-pub use fittings::{KNOBS, LEAST_STEPS, PISTONS, ROWS};
+pub(crate) use fittings::LEAST_STEPS;
+pub use fittings::{KNOBS, PISTONS, ROWS};
 
-/// bytes of a book
+/// Bytes of a book at most.
 pub const MOST_BYTES: usize = 65536;
-/// places of a row, keys or pipes
-pub const MOST_PLACES: usize = fittings::PLACES;
 
-pub const MOST_STEPS: usize = fittings::POSITIONS;
-/// wires of a book, on both boards together
+/// Wires of a book at most, on both boards together.
 pub const MOST_WIRES: usize = 256;
-/// numbers of a line that are kept: no form takes as many
-pub const MOST_KEPT: usize = 9;
+
+// places of a row, keys or pipes
+pub(crate) const MOST_PLACES: usize = fittings::PLACES;
+
+pub(crate) const MOST_STEPS: usize = fittings::POSITIONS;
+
+// numbers of a line that are kept: no form takes as many
+pub(crate) const MOST_KEPT: usize = 9;

@@ -26,8 +26,8 @@ fn size(digits: &[u8]) -> Option<u16>
     Some(n)
 }
 
-/// The number that the bytes write, with its sign.
-pub fn read_numeral(text: &[u8]) -> Option<i16>
+// The number that the bytes write, with its sign.
+pub(crate) fn read_numeral(text: &[u8]) -> Option<i16>
     ensures { result ≡ numeral text.now }
 {
     let [first, rest @ ..] = text else {

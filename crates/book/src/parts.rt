@@ -10,10 +10,10 @@ use crate::token::Token;
 use arrayvec::ArrayVec;
 
 #[derive(Drop)]
-pub struct Parts<'a> {
+pub(crate) struct Parts<'a> {
     pub word: &'a [u8],
     pub line: usize,
-    /// the first nine: more are too many for any form
+    // the first nine: more are too many for any form
     pub numbers: ArrayVec<i16, MOST_KEPT>,
 }
 
@@ -38,7 +38,7 @@ fn read_numbers(rest: &mut Passage) -> Option<ArrayVec<i16, MOST_KEPT>>
     }
 }
 
-pub fn read_shape(line: Passage) -> Option<Parts>
+pub(crate) fn read_shape(line: Passage) -> Option<Parts>
     ensures { Shapes line.entry.line result (shape_of line.entry.text.now) }
 {
     let mut rest = line;

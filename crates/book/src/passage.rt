@@ -18,9 +18,9 @@ use crate::record::Book;
 use crate::token::{Lexed, first_token};
 
 #[derive(Clone, Copy)]
-pub struct Passage<'a> {
+pub(crate) struct Passage<'a> {
     pub text: &'a [u8],
-    /// the number of the line that it starts on
+    // the number of the line that it starts on
     pub line: usize,
 }
 
@@ -29,7 +29,7 @@ fn read_form(parts: Parts) -> Result<Form, BookFault>
     ensures { (s : Shape) → parts.entry.word.now ≡ s.head → Kept parts.entry.numbers s.numbers → result ≡ form_of parts.entry.line s }
 {
     let line = parts.line;
-    // tried with `map_err` and `?`, and the proof did not close
+    // written out, since after `map_err` and `?` it is not known that the head is the word's
     let Ok(head) = Head::try_from(parts.word) else {
         return Err(BookFault::Form { line });
     };
@@ -37,8 +37,8 @@ fn read_form(parts: Parts) -> Result<Form, BookFault>
 }
 
 impl<'a> Passage<'a> {
-    /// How many bytes stand before the first that no line may hold, where it has one.
-    pub fn first_outside(self) -> Option<usize>
+    // How many bytes stand before the first that no line may hold, where it has one.
+    pub(crate) fn first_outside(self) -> Option<usize>
         ensures { result ≡ first_outside allowed self.entry.text.now }
     {
         // every byte of the line is looked at before its brackets, and the first that it may not hold is its fault
@@ -65,8 +65,8 @@ impl<'a> Passage<'a> {
         Some(line)
     }
 
-    /// Takes the first token off, or nothing where none stands there.
-    pub fn next_token(&mut self) -> Option<Lexed<'a>>
+    // Takes the first token off, or nothing where none stands there.
+    pub(crate) fn next_token(&mut self) -> Option<Lexed<'a>>
         ensures answer { Lexes self.old.line self.old.text.now result self.new.text.now }
         ensures same { self.new.line ≡ self.old.line }
     {
@@ -78,8 +78,8 @@ impl<'a> Passage<'a> {
         })
     }
 
-    /// Reads it as one line.
-    pub fn read(self) -> Result<Option<Form>, BookFault>
+    // Reads it as one line.
+    pub(crate) fn read(self) -> Result<Option<Form>, BookFault>
         ensures { result ≡ line_form self.entry.line self.entry.text.now }
     {
         let Passage { text, line } = self;

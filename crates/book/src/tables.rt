@@ -2,9 +2,9 @@
 ghost use Rattle.std.specs.Prelude.{◌≡◌, ◌<◌, length};
 ghost use Rattle.book.specs.Tables.{Gives};
 
-/// The place was given before, or there is no room for one more.
+// The place was given before, or there is no room for one more.
 #[derive(Clone, Copy, Debug, PartialEq)]
-pub struct Taken;
+pub(crate) struct Taken;
 
 // Gives a place what the book says of it; a place is given once.
 pub(crate) fn give<T: Copy>(places: &mut [Option<T>], at: usize, x: T) -> Result<(), Taken>

@@ -5,17 +5,19 @@ ghost use Rattle.book.specs.Token.{Cuts, Runs};
 
 use crate::classes::{is_letter, is_numeric};
 
+// borrowed: a token is the book's own bytes
 #[derive(Clone, Copy)]
-pub enum Token<'a> {
+pub(crate) enum Token<'a> {
     Open,
     Word(&'a [u8]),
-    /// the number's own bytes, without the space before it
+    // the number's own bytes, without the space before it
     Number(&'a [u8]),
     Close,
 }
 
+// a token and the line that it stands on
 #[derive(Clone, Copy)]
-pub struct Lexed<'a> {
+pub(crate) struct Lexed<'a> {
     pub token: Token<'a>,
     pub line: usize,
 }

@@ -1,5 +1,9 @@
-//! Books and what reading them answers: a table of texts, and some books that are too long to write out.
+//! Books and what reading them answers: a table of texts, and some books that are too long to write out; and books as
+//! files.
 #![tactic(auto)]
+
+#[cfg(test)]
+mod files;
 
 #[cfg(test)]
 mod tests {

@@ -2,21 +2,17 @@
 #![tactic(auto)]
 
 mod report;
+mod stopped;
 
 use book::{Board, Book, KNOBS, Knob, PISTONS, ROWS, Scope};
-use report::refusal;
-use std::io::ErrorKind;
+use book_file::read_book;
+use report::Refused;
+use std::io;
 use std::process::ExitCode;
-use std::{fs, io};
+use stopped::Stopped;
 
-// The bytes of the file: none where it is missing. Both programs have these lines: a public call states its result, and
-// none can be stated of a file.
-fn book_text(rt: &HostRuntime) -> io::Result<Vec<u8>> {
-    match fs::read(rt, "organ.book") {
-        Err(e) if e.kind() == ErrorKind::NotFound => Ok(Vec::new(rt.alloc())),
-        text => text,
-    }
-}
+// The exit status where the program cannot say what the book is.
+const STOPPED: u8 = 2;
 
 // The rows of one level that have places, as keys or pipes.
 fn print_rows<F: Fn(usize) -> u8>(rt: &HostRuntime, places: &str, reach: F) -> io::Result<()>
@@ -61,16 +57,29 @@ fn print_book(rt: &HostRuntime, book: &Book) -> io::Result<()> {
     println!(rt; "  stop board: {stops}")
 }
 
-fn main(rt: HostRuntime) -> anyhow::Result<ExitCode> {
-    let text = book_text(&rt)?;
+// A refused book is no success, though all of it is said.
+fn inspect(rt: &HostRuntime) -> Result<ExitCode, Stopped> {
+    let text = read_book(rt)?;
     match Book::read(text.as_slice()) {
         Ok(book) => {
-            print_book(&rt, &book)?;
+            print_book(rt, &book)?;
             Ok(ExitCode::SUCCESS)
         }
         Err(fault) => {
-            rt.println(refusal(rt.alloc(), fault)?)?;
+            let refused = Refused(fault);
+            println!(rt; "{refused}")?;
             Ok(ExitCode::FAILURE)
+        }
+    }
+}
+
+fn main(rt: HostRuntime) -> ExitCode {
+    match inspect(&rt) {
+        Ok(code) => code,
+        Err(stopped) => {
+            // where the error stream takes nothing either, the status alone tells
+            let _ = eprintln!(rt; "{stopped}");
+            ExitCode::from(STOPPED)
         }
     }
 }

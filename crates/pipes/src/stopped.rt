@@ -1,0 +1,39 @@
+//! Why the program stops before the end of its input.
+use book_file::Unreadable;
+use std::alloc::AllocError;
+use std::{fmt, io};
+
+#[derive(Debug, Drop)]
+pub enum Stopped {
+    /// there is no book to play
+    Book(Unreadable),
+    /// there is no memory for the listing
+    Memory,
+    /// the input gives no more
+    Input(io::Error),
+    /// the output takes no more
+    Output(io::Error),
+}
+
+impl From<Unreadable> for Stopped {
+    fn from(unreadable: Unreadable) -> Stopped {
+        Stopped::Book(unreadable)
+    }
+}
+
+impl From<AllocError> for Stopped {
+    fn from(_: AllocError) -> Stopped {
+        Stopped::Memory
+    }
+}
+
+impl fmt::Display for Stopped {
+    fn fmt<W: fmt::Write>(&self, f: &mut fmt::Formatter<W>) -> fmt::Result {
+        match self {
+            Stopped::Book(unreadable) => write!(f, "{unreadable}"),
+            Stopped::Memory => f.write_str("pipes: there is no memory for the listing"),
+            Stopped::Input(error) => write!(f, "pipes: the input cannot be read: {error}"),
+            Stopped::Output(error) => write!(f, "pipes: the listing cannot be written: {error}"),
+        }
+    }
+}
