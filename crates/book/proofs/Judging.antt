@@ -1,5 +1,5 @@
 -- A whole book against the grammar: what is accepted, with what entries, and what is refused, and why. Assumes nothing.
-use Rattle.std.proofs.Common.{◌≡◌, ℕ, ◌+◌, ◌<◌, ◌≤◌, ltb, List, [], ◌∷◌, ◌++◌, length, Some, None, Ok, Err, Option, Result, sym, ap, ◌∙◌, subst, ⊎_elim}
+use Rattle.std.proofs.Common.{◌≡◌, ℕ, ◌+◌, ◌<◌, ◌≤◌, ltb, List, [], ◌∷◌, ◌++◌, length, Some, None, Ok, Err, Result, sym, ap, ◌∙◌, subst, ⊎_elim}
 use Rattle.std.proofs.ByRecursion.{All-weaker}
 use Rattle.std.proofs.lemmas.List.{append-nil, append_assoc}
 use Rattle.std.proofs.lemmas.Bool.{cond-true, cond-false, cases_Bool, ltb-true, ltb-false, le-ltb}
@@ -8,7 +8,7 @@ use Rattle.book.specs.declared.book_fault.BookFault.TheVariants as fault
 use Rattle.book.specs.declared.form.Form.{Form}
 use Rattle.book.specs.declared.record.Book.{Book}
 use Rattle.book.specs.Entry.{Entry, Holds}
-use Rattle.book.specs.Grammar.{head_in, numbers_in, form_text, text_of, entries_from, entries_of, Fits, FitAfter, Refused, Rejects, Judged, SaidBy, Accepts}
+use Rattle.book.specs.Grammar.{head_in, numbers_in, form_text, Lines, text_of, entries_from, entries_of, Fits, FitAfter, Good, Refused, Rejects, Judged, SaidBy, Accepts}
 use Rattle.book.specs.Head.{spelling}
 use Rattle.book.specs.Limits.{most_bytes}
 use Rattle.book.specs.Reading.{placed, with_line, cut, and_then, lines_from, read_of, Answers}
@@ -22,7 +22,7 @@ form_placed : (es : List Entry) (n : ℕ) (f : Form) → Fits es f → with_line
 form_placed es n f fits = ap (placed es n) (line_complete n f fits.ranges fits.digits) ∙ cond-false _ _ _ fits.once
 
 -- good lines are read
-lines_complete : (es : List Entry) (n : ℕ) (ls : List (Option Form)) → FitAfter es n ls → lines_from es n (cut (text_of ls)) ≡ Ok (es ++ entries_from n ls)
+lines_complete : (es : List Entry) (n : ℕ) (ls : Lines) → FitAfter es n ls → lines_from es n (cut (text_of ls)) ≡ Ok (es ++ entries_from n ls)
 lines_complete es n [] fit = ap Ok (sym (append-nil es))
 lines_complete es n (None ∷ ls) fit = more_lines es n [] (cut (text_of ls)) (cut-some (text_of ls)) ∙ lines_complete es (n + 1) ls fit
 lines_complete es n (Some f ∷ ls) fit =
@@ -66,9 +66,12 @@ said-by : (r : Result Book BookFault) (es : List Entry) → Answers r (Ok es) �
 said-by (Ok b) es a = a
 said-by (Err f) es a = absurd a
 
+-- a text of good lines is read as their forms
+pub good_read : (bs : List ℕ) (ls : Lines) → bs ≡ text_of ls → Good ls → read_of bs ≡ Ok (entries_of ls)
+good_read bs ls text good =
+    let size = subst (λ x. length x ≤ most_bytes) (sym text) good.size in
+    cond-false _ _ _ (le-ltb most_bytes (length bs) size) ∙ ap (λ x. lines_from [] 1 (cut x)) text ∙ lines_complete [] 1 ls good.forms
+
 -- and what is right by the grammar it accepts
 pub accepts : (bs : List ℕ) (r : Result Book BookFault) → Answers r (read_of bs) → Accepts r bs
-accepts bs r a ls good text =
-    let size = subst (λ x. length x ≤ most_bytes) (sym text) good.size in
-    let read : read_of bs ≡ Ok (entries_of ls) = cond-false _ _ _ (le-ltb most_bytes (length bs) size) ∙ ap (λ x. lines_from [] 1 (cut x)) text ∙ lines_complete [] 1 ls good.forms in
-    said-by r (entries_of ls) (subst (Answers r) read a)
+accepts bs r a ls good text = said-by r (entries_of ls) (subst (Answers r) (good_read bs ls text good) a)

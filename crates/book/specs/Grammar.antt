@@ -61,18 +61,22 @@ abbrev pub line_text : Option Form → List ℕ
 line_text None = []
 line_text (Some f) = form_text f
 
+-- the lines of a text
+abbrev pub Lines : Type 0
+Lines = List (Option Form)
+
 -- a text of lines, each ended
-abbrev pub text_of : List (Option Form) → List ℕ
+abbrev pub text_of : Lines → List ℕ
 text_of [] = []
 text_of (l ∷ ls) = line_text l ++ line_end ∷ text_of ls
 
 -- the forms of the lines from line n on, each with its line
-abbrev pub entries_from : ℕ → List (Option Form) → List Entry
+abbrev pub entries_from : ℕ → Lines → List Entry
 entries_from n [] = []
 entries_from n (None ∷ ls) = entries_from (n + 1) ls
 entries_from n (Some f ∷ ls) = record { line = n; form = f } ∷ entries_from (n + 1) ls
 
-abbrev pub entries_of : List (Option Form) → List Entry
+abbrev pub entries_of : Lines → List Entry
 entries_of ls = entries_from 1 ls
 
 -- a form that may stand after these entries: its numbers are in range, and nothing is given twice or too often
@@ -82,13 +86,13 @@ pub record Fits (es : List Entry) (f : Form) : Type 0 where
   pub once : taken es f ≡ false
 
 -- each form of the lines fits after the entries before it
-abbrev pub FitAfter : List Entry → ℕ → List (Option Form) → Type 0
+abbrev pub FitAfter : List Entry → ℕ → Lines → Type 0
 FitAfter es n [] = Unit {0}
 FitAfter es n (None ∷ ls) = FitAfter es (n + 1) ls
 FitAfter es n (Some f ∷ ls) = Fits es f × FitAfter (es ++ record { line = n; form = f } ∷ []) (n + 1) ls
 
 -- the lines of a good book
-pub record Good (ls : List (Option Form)) : Type 0 where
+pub record Good (ls : Lines) : Type 0 where
   pub size : length (text_of ls) ≤ most_bytes
   pub forms : FitAfter [] 1 ls
 
@@ -112,7 +116,7 @@ Faulty es l ended (fault.Repeat n) = (ended ≡ true) × (f : Form) × InRange f
 -- a text from line n on, after the entries es of the lines before, is refused for f:
 -- the lines before the faulty one are good, its number is f's, and f is the first fault that it has
 pub record Refused (es : List Entry) (n : ℕ) (bs : List ℕ) (f : BookFault) : Type 0 where
-  pub before : List (Option Form)
+  pub before : Lines
   pub fit : FitAfter es n before
   pub line : List ℕ
   pub ended : Bool
@@ -132,7 +136,7 @@ Rejects (fault.Repeat n) bs = (length bs ≤ most_bytes) × Refused [] 1 bs (fau
 
 -- an accepted book is the text of good lines, and its record says what their forms say; a refused one has the fault
 abbrev pub Judged : Result Book BookFault → List ℕ → Type 0
-Judged (Ok b) bs = (ls : List (Option Form)) × (bs ≡ text_of ls) × Good ls × Holds b (entries_of ls)
+Judged (Ok b) bs = (ls : Lines) × (bs ≡ text_of ls) × Good ls × Holds b (entries_of ls)
 Judged (Err f) bs = Rejects f bs
 
 -- every text of good lines is accepted, with what their forms say
@@ -141,4 +145,4 @@ SaidBy (Ok b) es = Holds b es
 SaidBy (Err f) es = ⊥
 
 abbrev pub Accepts : Result Book BookFault → List ℕ → Type 0
-Accepts r bs = (ls : List (Option Form)) → Good ls → bs ≡ text_of ls → SaidBy r (entries_of ls)
+Accepts r bs = (ls : Lines) → Good ls → bs ≡ text_of ls → SaidBy r (entries_of ls)

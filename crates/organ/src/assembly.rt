@@ -15,7 +15,7 @@ use book::{Board, Book, BookWire};
 use chest::chest::{Chest, ROWS};
 use std::array;
 
-//// A wire that its board refuses, with the line where the book has it.
+/// A wire that its board refuses, with the line where the book has it.
 #[derive(Clone, Copy, Debug, PartialEq)]
 pub struct Refusal {
     pub line: usize,

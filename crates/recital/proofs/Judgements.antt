@@ -19,7 +19,7 @@ use Rattle.recital.specs.Recital.{MagnetStack}
 use Rattle.recital.specs.Performing.{Gives, IsBook, Performs, faulty, unwired, played, BeginsOn, ListingLaw}
 use Rattle.recital.specs.Listings.{book_listing}
 use Rattle.recital.proofs.Descriptions.{gives_said}
-use Rattle.recital.proofs.Books.{good_read}
+use Rattle.book.proofs.Judging.{good_read}
 use Rattle.recital.proofs.Portions.{listing_on}
 use Rattle.recital.proofs.Services.{given_is}
 

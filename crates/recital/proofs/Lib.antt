@@ -2,5 +2,4 @@ mod Bytes
 mod Descriptions
 mod Services
 mod Portions
-mod Books
 mod Judgements

@@ -1,12 +1,11 @@
 -- What a performance lists, in the words of grammar, rule, reading and record. Assumes nothing.
-use Rattle.std.specs.Prelude.{◌≡◌, ℕ, List, ◌++◌, map, Ok, Err, Option, Result}
+use Rattle.std.specs.Prelude.{◌≡◌, ℕ, List, ◌++◌, map, Ok, Err, Result}
 use Rattle.std.specs.List.{flat_map}
 use Rattle.chest.specs.Meaning.{Meaning}
 use Rattle.midi.specs.Reading.{reading}
 use Rattle.book.specs.declared.book_fault.BookFault.{BookFault}
-use Rattle.book.specs.declared.form.Form.{Form}
 use Rattle.book.specs.Entry.{Entry as Written}
-use Rattle.book.specs.Grammar.{text_of, entries_of, Good, Rejects}
+use Rattle.book.specs.Grammar.{Lines, text_of, entries_of, Good, Rejects}
 use Rattle.book.specs.Reading.{read_of}
 use Rattle.console.specs.Model.{Setup, first}
 use Rattle.console.specs.Record.{Entry, RecordLaw, Making}
@@ -42,7 +41,7 @@ Gives s stack (Err r) bytes given = given ≡ line_bytes (refusal_line r)
 -- a text is a book with these forms, by its reading and by the grammar
 pub record IsBook (text : List ℕ) (es : List Written) : Type 0 where
   pub reads : read_of text ≡ Ok es
-  pub lines : List (Option Form)
+  pub lines : Lines
   pub written : text ≡ text_of lines
   pub good : Good lines
   pub forms : es ≡ entries_of lines
