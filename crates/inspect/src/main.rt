@@ -59,15 +59,15 @@ fn print_book(rt: &HostRuntime, book: &Book) -> io::Result<()> {
 
 // A refused book is no success, though all of it is said.
 fn inspect(rt: &HostRuntime) -> Result<ExitCode, Stopped> {
-    let text = read_book(rt)?;
+    let text = read_book(rt).map_err(Stopped::Book)?;
     match Book::read(text.as_slice()) {
         Ok(book) => {
-            print_book(rt, &book)?;
+            print_book(rt, &book).map_err(Stopped::Output)?;
             Ok(ExitCode::SUCCESS)
         }
         Err(fault) => {
             let refused = Refused(fault);
-            println!(rt; "{refused}")?;
+            println!(rt; "{refused}").map_err(Stopped::Output)?;
             Ok(ExitCode::FAILURE)
         }
     }

@@ -1,4 +1,6 @@
 //! Why the program ends without having said what the book is.
+ghost use Rattle.inspect.specs.Stopped.{words_of};
+
 use book_file::Unreadable;
 use std::{fmt, io};
 
@@ -10,19 +12,9 @@ pub enum Stopped {
     Output(io::Error),
 }
 
-impl From<io::Error> for Stopped {
-    fn from(error: io::Error) -> Stopped {
-        Stopped::Output(error)
-    }
-}
-
-impl From<Unreadable> for Stopped {
-    fn from(unreadable: Unreadable) -> Stopped {
-        Stopped::Book(unreadable)
-    }
-}
-
 impl fmt::Display for Stopped {
+    ghost output = { words_of };
+
     fn fmt<W: fmt::Write>(&self, f: &mut fmt::Formatter<W>) -> fmt::Result {
         match self {
             Stopped::Book(unreadable) => write!(f, "{unreadable}"),

@@ -31,7 +31,9 @@ fn play(
         if n == 0 {
             break;
         }
-        recital.play(&portion[..n], listing)?;
+        recital
+            .play(&portion[..n], listing)
+            .map_err(|_| Stopped::Memory)?;
         output
             .write_all(listing.as_slice())
             .map_err(Stopped::Output)?;
@@ -42,7 +44,7 @@ fn play(
 
 // Prints one line.
 fn tell(rt: &HostRuntime, line: Line, listing: &mut Vec<u8>) -> Result<(), Stopped> {
-    line.add_to(listing)?;
+    line.add_to(listing).map_err(|_| Stopped::Memory)?;
     rt.stdout()
         .write_all(listing.as_slice())
         .map_err(Stopped::Output)
@@ -50,7 +52,7 @@ fn tell(rt: &HostRuntime, line: Line, listing: &mut Vec<u8>) -> Result<(), Stopp
 
 // Where the book is refused, that is the listing, and the input is not read.
 fn run(rt: &HostRuntime) -> Result<(), Stopped> {
-    let text = read_book(rt)?;
+    let text = read_book(rt).map_err(Stopped::Book)?;
     let mut listing = Vec::new(rt.alloc());
     match MagnetRecital::open_text(text.as_slice()) {
         Ok(mut recital) => play(rt, &mut recital, &mut listing),

@@ -1,6 +1,7 @@
 //! Why the program stops before the end of its input.
+ghost use Rattle.pipes.specs.Stopped.{words_of};
+
 use book_file::Unreadable;
-use std::alloc::AllocError;
 use std::{fmt, io};
 
 #[derive(Debug, Drop)]
@@ -15,19 +16,9 @@ pub enum Stopped {
     Output(io::Error),
 }
 
-impl From<Unreadable> for Stopped {
-    fn from(unreadable: Unreadable) -> Stopped {
-        Stopped::Book(unreadable)
-    }
-}
-
-impl From<AllocError> for Stopped {
-    fn from(_: AllocError) -> Stopped {
-        Stopped::Memory
-    }
-}
-
 impl fmt::Display for Stopped {
+    ghost output = { words_of };
+
     fn fmt<W: fmt::Write>(&self, f: &mut fmt::Formatter<W>) -> fmt::Result {
         match self {
             Stopped::Book(unreadable) => write!(f, "{unreadable}"),
