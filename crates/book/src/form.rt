@@ -10,11 +10,11 @@ use crate::head::Head;
 use crate::limits::{KNOBS, LEAST_STEPS, MOST_PLACES, MOST_STEPS, PISTONS, ROWS};
 use fittings::Wire;
 
-/// The numbers of a knob and of a piston stand as a book writes them, and as the grammar's definitions do, which name each
-/// by its place; the record makes a `Knob` and a `Scope` of them. Keys and ranks are two cases, since a book has two words
-/// for them and `specs/` a meaning for each. No call takes or gives it; it is public for the definitions of other crates.
+// The numbers of a knob and of a piston stand as a book writes them, and as the grammar's definitions do, which name each
+// by its place; the record makes a `Knob` and a `Scope` of them. Keys and ranks are two cases, since a book has two words
+// for them and `specs/` a meaning for each.
 #[derive(Clone, Copy)]
-pub enum Form {
+pub(crate) enum Form {
     Keys { row: u8, reach: u8 },
     Rank { row: u8, reach: u8 },
     Knob { knob: u8, steps: u8, home: u8 },
