@@ -3,11 +3,10 @@
 
 use board::board::RelayBoard;
 use board::fault::BoardFault;
-use fittings::Wire;
 use bottom::magnet_chest::MagnetChest;
 use bottom::midi_chest::MidiChest;
 use chest::chest::Chest;
-
+use fittings::Wire;
 
 /// What is done to a chest, and how many pipes change at the strobe after it.
 #[derive(Clone, Copy)]

@@ -1,6 +1,9 @@
 -- What messages ask for lies in its bounds, and each such call is asked for by one. Assumes nothing.
 use Rattle.std.proofs.Common.{◌≡◌, ℕ, ◌+◌, ◌-◌, ◌<◌, Bool, true, false, cond, ltb, eqb, refl, sym, ap, ◌∙◌, subst, arith}
 use Rattle.std.proofs.lemmas.Bool.Decides.{nat_tests}
+use Rattle.std.proofs.lemmas.Fmt.{decimal_digit}
+use Rattle.std.specs.Prelude.{◌++◌, codes}
+use Rattle.organ.specs.Line.{line_end}
 use Rattle.midi.specs.declared.message.Message.{Message}
 use Rattle.midi.specs.declared.message.Message.TheVariants.{NoteOff, NoteOn, KeyPressure, Controller, Program, ChannelPressure, Bend}
 use Rattle.midi.specs.Reading.{InRange}
@@ -82,10 +85,18 @@ asked (Capture p) a =
 asked (Recall p) a = (Program 15 p, (omega arith, a), refl)
 asked Cancel a = (NoteOn 15 127 64, (omega arith, omega arith, omega arith), refl)
 
+-- a note below that of key 0
+too_low : (d n v : ℕ) → d < 15 → n < 36 → note_action d n v ≡ LowNote d n
+too_low d n v h low =
+    on_division d (note_setting n v) (key_action d n v) h
+    ∙ ap (λ b. cond b (LowNote d n) (cond (ltb 0 v) (Perform (Press d (n - 36))) (Perform (Lift d (n - 36))))) (let e : ltb n 36 ≡ true = grind (arith, nat_tests, low) in e)
+
 pub asking_law : AskingLaw
 asking_law =
     record {
       only = λ m call r a. subst Fine a (fine m r);
       one = λ m call other a b. let e : Perform call ≡ Perform other = sym a ∙ b in cc;
       each = asked;
+      low = λ d n v h low. (too_low d n v h low, too_low d n 0 h low);
+      low_line = λ d n. ap (λ xs. codes "(fault " ++ (xs ++ line_end)) (decimal_digit 2 (omega arith));
     }
