@@ -26,6 +26,10 @@ knob_in b k = cond (nat_lt k knobs) (place_at b.knobs k) None
 abbrev pub scope_in : Book → ℕ → Option Scope
 scope_in b p = cond (nat_lt p pistons) (place_at b.pistons p) None
 
+-- the wires in their order
+abbrev pub wires_in : Book → List BookWire
+wires_in b = b.wires.items
+
 abbrev pub same_board : Board → Board → Bool
 same_board Coupler Coupler = true
 same_board Coupler Stop = false

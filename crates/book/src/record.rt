@@ -36,7 +36,7 @@ pub struct Book {
 
 impl Book {
     ghost use Rattle.std.specs.Prelude.{◌≡◌, ◌<◌, true, not, is_ok, IfSome, List, [], ◌∷◌, ◌++◌, count_by};
-    ghost use Rattle.book.specs.Book.{keys_in, knob_in, on_board, pipes_in, scope_in};
+    ghost use Rattle.book.specs.Book.{keys_in, knob_in, on_board, pipes_in, scope_in, wires_in};
     ghost use Rattle.book.specs.Entry.{Entry, Holds, InRange, taken};
     ghost use Rattle.book.specs.Grammar.{Accepts, Judged};
     ghost use Rattle.book.specs.Reading.{Answers, Fills, read_of, with_line};
@@ -150,14 +150,14 @@ impl Book {
 
     /// The wires in their order.
     pub fn wires(&self) -> &[BookWire]
-        ensures items { result.now ≡ self.now.wires.items }
+        ensures items { result.now ≡ wires_in self.now }
     {
         self.wires.as_slice()
     }
 
     /// How many wires a board has.
     pub fn wires_on(&self, board: Board) -> usize
-        ensures value { result ≡ count_by (on_board board) self.now.wires.items }
+        ensures value { result ≡ count_by (on_board board) (wires_in self.now) }
     {
         self.wires().iter().filter(|w| w.board == board).count()
     }
