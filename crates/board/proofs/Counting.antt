@@ -15,7 +15,7 @@ use Rattle.board.specs.Counts.{at_place, Fits, Moves, Room}
 use Rattle.board.proofs.Sums.{mixed, mixed_more, mixed-le, left_more}
 use Rattle.sets.specs.Numbers.{Numbers, nothing, PopsFirst}
 use Rattle.board.specs.Among.{blank, waits, waits_for}
-use Rattle.board.specs.declared.lead.Setting.{Setting}
+use Rattle.board.specs.declared.lead.Wait.{Wait}
 use Rattle.board.specs.declared.swing.Swing.TheVariants.{Starts, Stops}
 use Rattle.board.proofs.Ways.{Swung, through-one, through-put, through-swing, span-keys, leads-is}
 
@@ -160,7 +160,7 @@ module _ (h : Wiring) where
       -- a wire that does not wait for the knob has the ways that it had
       pub knob_same : (w : Lead) → waits knob w ≡ false → knob_new w ≡ knob_old w
       knob_same w other = through-swing (beneath h) (panel h) (register h) knob from to b q w was turns None (still w.setting other) where
-        still : (t : Option Setting) → waits_for knob t ≡ false → swing_of t knob from to ≡ None
+        still : (t : Option Wait) → waits_for knob t ≡ false → swing_of t knob from to ≡ None
         still None e = refl
         still (Some t) e = ap (λ c. cond c (cond (eqb t.position from) (Some Stops) (cond (eqb t.position to) (Some Starts) None)) None) e
 

@@ -4,14 +4,14 @@ use Rattle.std.specs.Option.{option_map}
 use Rattle.std.proofs.lemmas.List.{get_or-set_same, get_or-set_other, get_or_default}
 use Rattle.std.proofs.lemmas.Bool.{cases_eq, false≢true, leb-true, ltb-true}
 use Rattle.std.proofs.lemmas.Bool.Decides.{nat_tests}
-use Rattle.sets.specs.declared.set.NumberSet.{NumberSet}
+use Rattle.sets.specs.declared.number_set.NumberSet.{NumberSet}
 use Rattle.sets.specs.Numbers.{with_number}
 use Rattle.sets.specs.NumberSet.{members, empty}
 use Rattle.board.specs.declared.lead.Lead.{Lead}
 use Rattle.chest.specs.Meaning.{Panel, knob_to}
 use Rattle.board.specs.Wires.{Reaches, live, stands, landing}
 use Rattle.board.specs.Wiring.{outlet}
-use Rattle.board.specs.declared.lead.Setting.{Setting}
+use Rattle.board.specs.declared.lead.Wait.{Wait}
 use Rattle.board.specs.Among.{leads_from, lands, waits, waits_for}
 
 -- a number is put into one set of a table, or taken out
@@ -83,7 +83,7 @@ outlet_some reach panel w row key is =
 -- a wire that does not wait for a knob is as live where it turns
 pub live_same : (panel : Panel) (knob position : ℕ) (w : Lead) → waits knob w ≡ false → live (knob_to panel knob position) w ≡ live panel w
 live_same panel knob position w = by w.setting where
-  by : (t : Option Setting) → waits_for knob t ≡ false → stands (knob_to panel knob position) t ≡ stands panel t
+  by : (t : Option Wait) → waits_for knob t ≡ false → stands (knob_to panel knob position) t ≡ stands panel t
   by None e = refl
   by (Some s) e = ap (λ c. eqb (cond c position (panel s.knob)) s.position) e
 

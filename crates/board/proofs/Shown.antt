@@ -7,7 +7,7 @@ use Rattle.std.proofs.lemmas.Bool.Decides.{nat_tests, Decides-by_or}
 use Rattle.chest.specs.Places.{Places, none}
 use Rattle.chest.specs.Meaning.{Panel}
 use Rattle.board.specs.declared.lead.Lead.{Lead}
-use Rattle.board.specs.declared.lead.Setting.{Setting}
+use Rattle.board.specs.declared.lead.Wait.{Wait}
 use Rattle.board.specs.Wires.{Reaches, live, stands, landing, is_at, leads, way, some, some_wire, image, through}
 use Rattle.board.specs.Fitting.{in_range, raised}
 use Rattle.board.specs.Laws.{Reached, either, ImageLaw}
@@ -29,11 +29,11 @@ shift_back : (raise key q : ℕ) → pos q ≡ pos key +ℤ (pos raise -ℤ pos 
 shift_back raise key q e = omega (arith, ints)
 
 module _ (reach : Reaches) (panel : Panel) (s : Places) (b q : ℕ) (w : Lead) where
-  live-tells : (c : Option Setting) → stands panel c ≡ true → IfSome c (λ t. panel t.knob ≡ t.position)
+  live-tells : (c : Option Wait) → stands panel c ≡ true → IfSome c (λ t. panel t.knob ≡ t.position)
   live-tells None e = tt
   live-tells (Some t) e = eqb-true (panel t.knob) t.position e
 
-  live-from : (c : Option Setting) → IfSome c (λ t. panel t.knob ≡ t.position) → stands panel c ≡ true
+  live-from : (c : Option Wait) → IfSome c (λ t. panel t.knob ≡ t.position) → stands panel c ≡ true
   live-from None e = refl
   live-from (Some t) e = eq-eqb (panel t.knob) t.position e
 

@@ -8,7 +8,7 @@ use Rattle.chest.specs.Places.{Places, total, put}
 use Rattle.chest.proofs.Totals.{total_ext}
 use Rattle.chest.specs.Meaning.{Panel, knob_to}
 use Rattle.board.specs.declared.lead.Lead.{Lead}
-use Rattle.board.specs.declared.lead.Setting.{Setting}
+use Rattle.board.specs.declared.lead.Wait.{Wait}
 use Rattle.board.specs.Wires.{Reaches, live, stands, landing, is_at, leads, way, span, through}
 use Rattle.board.specs.declared.swing.Swing.{Swing}
 use Rattle.board.specs.declared.swing.Swing.TheVariants.{Starts, Stops}
@@ -121,7 +121,7 @@ pub through-swing : (reach : Reaches) (panel : Panel) (s : Places) (knob from to
 through-swing reach panel s knob from to b q w was ne o is =
     subst (λ x. Swung x (through reach (knob_to panel knob to) s b q w) (through reach panel s b q w) (span reach s b q w)) is (by w.setting (span reach s b q w))
   where
-    by : (c : Option Setting) (ways : ℕ) → Swung (swing_of c knob from to) (cond (stands (knob_to panel knob to) c) ways 0) (cond (stands panel c) ways 0) ways
+    by : (c : Option Wait) (ways : ℕ) → Swung (swing_of c knob from to) (cond (stands (knob_to panel knob to) c) ways 0) (cond (stands panel c) ways 0) ways
     by None ways = refl
     by (Some t) ways = turned (t.knob == knob) (t.position == from) (t.position == to) _ _ ways one (λ f g. ne (sym (eqb-true t.position from f) ∙ eqb-true t.position to g)) where
       there : t.knob ≡ knob → panel t.knob ≡ from

@@ -2,7 +2,7 @@
 use Rattle.std.specs.Prelude.{ℕ, Bool, false, ◌&&◌, List, map, Some, None, Option, is_some, ◌==◌, nat_le, slice_index_or}
 use Rattle.sets.specs.Numbers.{Numbers}
 use Rattle.board.specs.declared.lead.Lead.{Lead}
-use Rattle.board.specs.declared.lead.Setting.{Setting}
+use Rattle.board.specs.declared.lead.Wait.{Wait}
 use Rattle.board.specs.Wires.{Reaches, landing}
 
 -- the numbers of the wires of which something is true
@@ -18,7 +18,7 @@ lands reach key w =
     (nat_le w.lowest key && nat_le key w.highest) && is_some (landing w.raise (reach w.to) key)
 
 -- whether it waits for a knob
-abbrev pub waits_for : ℕ → Option Setting → Bool
+abbrev pub waits_for : ℕ → Option Wait → Bool
 waits_for knob None = false
 waits_for knob (Some s) = s.knob == knob
 

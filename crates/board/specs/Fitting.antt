@@ -5,7 +5,7 @@ use Rattle.chest.specs.Places.{Places}
 use Rattle.chest.specs.Meaning.{Meaning}
 use Rattle.fittings.specs.declared.Wire.{Wire}
 use Rattle.board.specs.declared.lead.Lead.{Lead}
-use Rattle.board.specs.declared.lead.Setting.{Setting}
+use Rattle.board.specs.declared.lead.Wait.{Wait}
 use Rattle.board.specs.declared.fault.BoardFault.{BoardFault}
 use Rattle.board.specs.declared.fault.RowRefused.{RowRefused}
 use Rattle.board.specs.declared.fault.BoardFault.TheVariants.{Held, Full, Keys, ToRow, NoPlaces, Shift, Knob, Position}
@@ -48,7 +48,7 @@ fit_answer l m w =
     checked ((is_free l.register, Held) ∷ (nat_lt (length l.wires) 128, Full) ∷ wire_checks l m w) tt
 
 -- knob 64 means that the wire is always live
-abbrev pub setting_of : Wire → Option Setting
+abbrev pub setting_of : Wire → Option Wait
 setting_of w = cond (w.knob == 64) None (Some (record { knob = w.knob; position = w.position }))
 
 -- the wire as it is kept

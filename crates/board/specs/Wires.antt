@@ -3,14 +3,14 @@ use Rattle.std.specs.Prelude.{ℕ, zero, suc, ◌+◌, ◌-◌, Bool, true, fals
 use Rattle.chest.specs.Places.{Places, total}
 use Rattle.chest.specs.Meaning.{Panel}
 use Rattle.board.specs.declared.lead.Lead.{Lead}
-use Rattle.board.specs.declared.lead.Setting.{Setting}
+use Rattle.board.specs.declared.lead.Wait.{Wait}
 
 -- how many places each row has
 abbrev pub Reaches : Type 0
 Reaches = ℕ → ℕ
 
 -- a wire is live while its knob stands at its position, and always where it has no knob
-abbrev pub stands : Panel → Option Setting → Bool
+abbrev pub stands : Panel → Option Wait → Bool
 stands panel None = true
 stands panel (Some s) = panel s.knob == s.position
 

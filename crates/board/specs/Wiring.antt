@@ -6,7 +6,7 @@ use Rattle.chest.specs.Places.{Places}
 use Rattle.chest.specs.Meaning.{Panel}
 use Rattle.chest.specs.declared.place.Place.{Place}
 use Rattle.board.specs.declared.lead.Lead.{Lead}
-use Rattle.board.specs.declared.lead.Setting.{Setting}
+use Rattle.board.specs.declared.lead.Wait.{Wait}
 use Rattle.board.specs.declared.wiring.Wiring.{Wiring}
 use Rattle.chest.specs.Positions.{positions_of}
 use Rattle.chest.specs.Reaches.{reaches_of}
@@ -47,7 +47,7 @@ meets None b q = false
 meets (Some t) b q = b == t.0 && q == t.1
 
 -- what becomes of a wire where a knob goes from one position to another: it starts to be live, or stops, or neither
-abbrev pub swing_of : Option Setting → ℕ → ℕ → ℕ → Option Swing
+abbrev pub swing_of : Option Wait → ℕ → ℕ → ℕ → Option Swing
 swing_of None knob from to = None
 swing_of (Some s) knob from to =
     cond (s.knob == knob) (cond (s.position == from) (Some Stops) (cond (s.position == to) (Some Starts) None)) None

@@ -4,7 +4,7 @@ ghost use Rattle.board.specs.Counts.{Exact};
 
 use crate::below::Below;
 use crate::fault::{BoardFault, RowRefused};
-use crate::lead::{ALWAYS, Lead, Setting as Wait};
+use crate::lead::{ALWAYS, Lead, Wait};
 use crate::swing::Swing;
 use crate::turn::Turn;
 use crate::wiring::{ALL_PLACES, Wiring};

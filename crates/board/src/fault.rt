@@ -13,6 +13,7 @@ pub struct RowRefused {
     pub fault: ChestFault,
 }
 
+/// Why a board does not take a wire.
 #[derive(Clone, Copy, Debug, PartialEq)]
 pub enum BoardFault {
     /// Some place of the board's register is set.

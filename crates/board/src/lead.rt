@@ -21,21 +21,21 @@ pub(crate) const ALWAYS: u16 = 64;
 // The knob that a wire waits for, and the position at which it is live. Not the chest's `Setting`, whose type says that
 // there is such a position: the definitions write this one down for any wire that is offered.
 #[derive(Clone, Copy, Debug, Default, PartialEq)]
-pub(crate) struct Setting {
+pub(crate) struct Wait {
     pub knob: u8,
     pub position: u8,
 }
 
-impl Setting {
+impl Wait {
     // When the wire is live: with knob 64 always. The numbers were checked, so narrowing loses nothing.
-    pub(crate) fn of(wire: Wire) -> Option<Setting>
+    pub(crate) fn of(wire: Wire) -> Option<Wait>
         requires { (wire.knob < 65) × (wire.position < 16) }
         ensures { result ≡ setting_of wire }
     {
         if wire.knob == ALWAYS {
             return None;
         }
-        Some(Setting {
+        Some(Wait {
             knob: wire.knob as u8,
             position: wire.position as u8,
         })
@@ -51,7 +51,7 @@ pub(crate) struct Lead {
     pub to: u8,
     pub raise: u8,
     // none where the wire is always live
-    pub setting: Option<Setting>,
+    pub setting: Option<Wait>,
 }
 
 impl Lead {

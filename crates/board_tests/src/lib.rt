@@ -47,7 +47,7 @@ fn plays<C: Chest>(chest: &mut C, steps: &[Step]) -> bool {
     })
 }
 
-// A table with one row. The tests of consoles have it too: a crate for these lines would be no plainer.
+// A table with one row.
 fn row(reach: u8) -> [u8; 16] {
     let mut reaches = [0; 16];
     reaches[0] = reach;

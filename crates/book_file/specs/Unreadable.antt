@@ -28,5 +28,5 @@ TextOf (Err e) (Err u) = (error_kind e ≢ kind.NotFound) × Reason e u
 abbrev pub sentence_of : Unreadable → Option (List ℕ)
 sentence_of Directory = Some (codes "organ.book: it is a directory; a book is a file of text")
 sentence_of NoLeave = Some (codes "organ.book: no leave to read it; change its permissions")
-sentence_of NoMemory = Some (codes "organ.book: there is no memory to read it")
+sentence_of NoMemory = Some (codes "organ.book: there is no memory to read it; end other programs")
 sentence_of (Other e) = None

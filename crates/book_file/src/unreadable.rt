@@ -47,7 +47,9 @@ impl fmt::Display for Unreadable {
             Unreadable::NoLeave => f.write_str(
                 "organ.book: no leave to read it; change its permissions",
             ),
-            Unreadable::NoMemory => f.write_str("organ.book: there is no memory to read it"),
+            Unreadable::NoMemory => f.write_str(
+                "organ.book: there is no memory to read it; end other programs",
+            ),
             Unreadable::Other(error) => write!(f, "organ.book: it cannot be read: {error}"),
         }
     }

@@ -75,7 +75,7 @@ fn sentences(rt: HostRuntime) -> Result<(), Fail> {
         ),
         (
             ErrorKind::OutOfMemory,
-            "organ.book: there is no memory to read it",
+            "organ.book: there is no memory to read it; end other programs",
         ),
         (
             ErrorKind::TimedOut,

@@ -2,6 +2,7 @@
 ghost use Rattle.std.specs.Prelude.{◌≡◌};
 ghost use Rattle.bottom.specs.BufferFault.{number_of};
 
+/// Why a buffer cannot be filled.
 #[derive(Clone, Copy, Debug, PartialEq)]
 pub enum BufferFault {
     /// The buffer has another length than 256 bytes.

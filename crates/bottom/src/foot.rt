@@ -20,7 +20,7 @@ pub(crate) struct Pipes {
 }
 
 #[derive(Drop)]
-pub struct Foot {
+pub(crate) struct Foot {
     reaches: Reaches,
     positions: Positions,
     strobes: u32,

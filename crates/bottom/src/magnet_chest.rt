@@ -12,6 +12,7 @@ use crate::pipe_table::BYTES;
 use chest::chest::{Chest, ROWS};
 use chest::fault::ChestFault;
 
+/// A chest at the foot of a stack that works magnets.
 #[derive(Drop)]
 pub struct MagnetChest {
     foot: Foot,

@@ -16,6 +16,7 @@ use chest::chest::{Chest, ROWS};
 use chest::fault::ChestFault;
 use chest::sender::Sender;
 
+/// A chest at the foot of a stack that tells a receiver what starts and stops.
 #[derive(Drop)]
 pub struct MidiChest {
     foot: Foot,

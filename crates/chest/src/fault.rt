@@ -2,6 +2,7 @@
 ghost use Rattle.std.specs.Prelude.{◌≡◌};
 ghost use Rattle.chest.specs.ChestFault.{number_of};
 
+/// Why a chest does not do a call.
 #[derive(Clone, Copy, Debug, PartialEq)]
 pub enum ChestFault {
     /// The row is 16 or more.

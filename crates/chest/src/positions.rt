@@ -6,6 +6,7 @@ use crate::chest::KNOBS;
 use crate::fault::ChestFault;
 use crate::setting::Setting;
 
+/// Where each knob stands.
 #[derive(Clone, Copy)]
 pub struct Positions {
     table: [u8; KNOBS],
@@ -16,6 +17,7 @@ impl Positions {
     ghost use Rattle.chest.specs.Positions.{panel_of, positions_of, position_in};
     ghost use Rattle.chest.specs.Setting.{knob_of, position_of};
 
+    /// The position of knob k is number k of the table.
     pub fn new(table: [u8; KNOBS]) -> Positions
         ensures { positions_of result ≡ panel_of table }
     {

@@ -5,6 +5,7 @@ use crate::chest::{PLACES, ROWS};
 use crate::fault::ChestFault;
 use crate::place::Place;
 
+/// How many places each row has.
 #[derive(Clone, Copy)]
 pub struct Reaches {
     table: [u8; ROWS],

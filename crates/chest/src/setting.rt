@@ -30,6 +30,7 @@ impl Setting {
         Ok(Setting { knob, position })
     }
 
+    /// The number of the knob.
     pub fn knob(self) -> usize
         ensures value { result ≡ knob_of self }
         ensures bound { result < 64 }
@@ -37,6 +38,7 @@ impl Setting {
         self.knob
     }
 
+    /// Where it is to stand.
     pub fn position(self) -> usize
         ensures value { result ≡ position_of self }
         ensures bound { result < 16 }

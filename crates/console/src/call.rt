@@ -1,5 +1,6 @@
 //! What an organist can do at the console.
 
+/// What an organist does.
 #[derive(Clone, Copy, Debug, PartialEq)]
 pub enum Call {
     Press { division: usize, key: usize },

@@ -16,6 +16,7 @@ use chest::place::Place;
 use chest::sender::Sender;
 use chest::walks::{Rule, clear, positions, show_row};
 
+/// Keys, knobs and pistons over a chest.
 #[derive(Drop)]
 pub struct Console<C: Chest> {
     chest: C,

@@ -2,6 +2,7 @@
 ghost use Rattle.std.specs.Prelude.{◌≡◌};
 ghost use Rattle.console.specs.PlayFault.{number_of};
 
+/// Why a console does not do a call.
 #[derive(Clone, Copy, Debug, PartialEq)]
 pub enum PlayFault {
     /// The division is 16 or more.

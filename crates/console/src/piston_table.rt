@@ -7,13 +7,14 @@ use chest::chest::KNOBS;
 pub use fittings::{PISTONS, Scope};
 use fittings::{silent, told};
 
-/// The knobs that it takes, and the positions that were captured last.
+// The knobs that it takes, and the positions that were captured last.
 #[derive(Clone, Copy)]
-pub struct Piston {
+pub(crate) struct Piston {
     scope: Scope,
     frame: Option<[u8; KNOBS]>,
 }
 
+/// The pistons of a console by number.
 #[derive(Clone, Copy)]
 pub struct PistonTable {
     pistons: [Option<Piston>; PISTONS],
@@ -68,6 +69,7 @@ impl PistonTable {
         ensures there { frame_of self.new piston ≡ Some positions }
         ensures others { (q : ℕ) → (q ≢ piston) → frame_of self.new q ≡ frame_of self.old q }
     {
+        // lent by its number: a capture changes one piston, and the others stay as they are
         if let Some(kept) = &mut self.pistons[piston] {
             kept.frame = Some(positions);
         }

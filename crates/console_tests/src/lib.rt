@@ -31,7 +31,7 @@ fn fit_all<C: Chest>(board: &mut RelayBoard<C>, wires: &[Wire]) -> Result<(), Bo
     Ok(())
 }
 
-// A table with one row. The tests of boards have it too: a crate for these lines would be no plainer.
+// A table with one row.
 fn row(reach: u8) -> [u8; 16] {
     let mut reaches = [0; 16];
     reaches[0] = reach;

@@ -12,13 +12,16 @@ pub const ROWS: usize = 16;
 /// Places of a row at most: keys or pipes.
 pub const PLACES: usize = 128;
 
+/// Knobs of an organ, defined or not.
 pub const KNOBS: usize = 64;
 
-/// Positions of a knob, its steps, at least and at most.
+/// Steps of a knob at least.
 pub const LEAST_STEPS: usize = 2;
 
+/// Steps of a knob at most: its positions.
 pub const POSITIONS: usize = 16;
 
+/// Pistons of a console, defined or not.
 pub const PISTONS: usize = 40;
 
 /// How far a wire shifts at most, up or down.

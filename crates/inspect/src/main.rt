@@ -1,12 +1,12 @@
 //! Reads organ.book, and says what the organ has, or what is wrong with the book and where.
 #![tactic(auto)]
 
-mod report;
+mod refused;
 mod stopped;
 
 use book::{Board, Book, KNOBS, Knob, PISTONS, ROWS, Scope};
 use book_file::read_book;
-use report::Refused;
+use refused::Refused;
 use std::io;
 use std::process::ExitCode;
 use stopped::Stopped;

@@ -4,6 +4,7 @@ ghost use Rattle.inspect.specs.Stopped.{words_of};
 use book_file::Unreadable;
 use std::{fmt, io};
 
+/// Each case ends the program with status 2.
 #[derive(Debug, Drop)]
 pub enum Stopped {
     /// there is no book to look at

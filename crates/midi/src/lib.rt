@@ -1,4 +1,4 @@
-//! Reads a MIDI 1.0 line and hands out each channel message as its last byte arrives.
+//! Reads a MIDI line, by MIDI 1.0, and hands out each channel message as its last byte arrives.
 #![tactic(auto)]
 
 mod laws;

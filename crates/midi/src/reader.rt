@@ -1,4 +1,4 @@
-//! The reader of a line.
+//! The reader of a MIDI line.
 ghost use Rattle.std.specs.Prelude.{◌≡◌, true};
 ghost use Rattle.midi.specs.State.{sound};
 
@@ -6,7 +6,7 @@ use crate::message::Message;
 use crate::state::State;
 use std::alloc::AllocError;
 
-/// Reads the bytes of a line as they come.
+/// Reads the bytes of a MIDI line as they come.
 #[derive(Drop)]
 pub struct Reader {
     state: State,
@@ -39,7 +39,7 @@ impl Reader {
         self.state.feed(byte)
     }
 
-    /// Reads the next bytes of the line and adds their messages to `out`. Room for one message a byte is made first, so
+    /// Reads the next bytes of the MIDI line and adds their messages to `out`. Room for one message a byte is made first, so
     /// that where there is no memory nothing is read and nothing is lost.
     pub fn feed_all(&mut self, bytes: &[u8], out: &mut Vec<Message>) -> Result<(), AllocError>
         ensures items { out.new.items ≡ (if is_ok result then out.old.items ++ handed (state_of self.old) bytes.now else out.old.items) }

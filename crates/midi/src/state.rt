@@ -107,17 +107,17 @@ impl Long {
         match self {
             Long::NoteOff => Message::NoteOff {
                 channel,
-                key: first,
+                note: first,
                 velocity: second,
             },
             Long::NoteOn => Message::NoteOn {
                 channel,
-                key: first,
+                note: first,
                 velocity: second,
             },
             Long::KeyPressure => Message::KeyPressure {
                 channel,
-                key: first,
+                note: first,
                 pressure: second,
             },
             Long::Controller => Message::Controller {

@@ -24,18 +24,18 @@ mod tests {
         Ok(())
     }
 
-    fn on(key: u8, velocity: u8) -> Message {
+    fn on(note: u8, velocity: u8) -> Message {
         Message::NoteOn {
             channel: 0,
-            key,
+            note,
             velocity,
         }
     }
 
-    fn off(key: u8, velocity: u8) -> Message {
+    fn off(note: u8, velocity: u8) -> Message {
         Message::NoteOff {
             channel: 0,
-            key,
+            note,
             velocity,
         }
     }
@@ -60,17 +60,17 @@ mod tests {
         let expected = [
             Message::NoteOff {
                 channel: 15,
-                key: 36,
+                note: 36,
                 velocity: 64,
             },
             Message::NoteOn {
                 channel: 14,
-                key: 127,
+                note: 127,
                 velocity: 0,
             },
             Message::KeyPressure {
                 channel: 1,
-                key: 60,
+                note: 60,
                 pressure: 32,
             },
             Message::Controller {

@@ -12,7 +12,7 @@ use Rattle.console.specs.declared.call.Call.TheVariants.{Press, Lift, Sustain, C
 use Rattle.organ.specs.declared.action.Action.{Action}
 use Rattle.organ.specs.declared.action.Action.TheVariants.{Nothing, Perform, LowNote}
 use Rattle.organ.specs.Action.{action_of, key_action, note_setting, note_action, controller_action}
-use Rattle.organ.specs.Asking.{Askable, Asks, AskingLaw}
+use Rattle.organ.specs.Asking.{Askable, asker, Asks, AskingLaw}
 
 -- what is asked for, if it is a call, can be asked for
 abbrev Fine : Action → Type 0
@@ -67,23 +67,23 @@ note_of : (d k : ℕ) (f : ℕ → Action) → cond (ltb (k + 36) 36) (LowNote d
 note_of d k f =
     ap (λ b. cond b (LowNote d (k + 36)) (f (k + 36 - 36))) (let e : ltb (k + 36) 36 ≡ false = grind (arith, nat_tests) in e) ∙ ap f (let e : k + 36 - 36 ≡ k = omega arith in e)
 
-asked : (call : Call) → Askable call → (m : Message) × InRange m × Asks m call
+asked : (call : Call) → Askable call → InRange (asker call) × Asks (asker call) call
 asked (Press d k) a =
-    (NoteOn d (k + 36) 64, (omega (arith, a.0), omega (arith, a.1), omega arith), on_division d (note_setting (k + 36) 64) (key_action d (k + 36) 64) a.0 ∙ note_of d k (λ n. Perform (Press d n)))
+    ((omega (arith, a.0), omega (arith, a.1), omega arith), on_division d (note_setting (k + 36) 64) (key_action d (k + 36) 64) a.0 ∙ note_of d k (λ n. Perform (Press d n)))
 asked (Lift d k) a =
-    (NoteOff d (k + 36) 64, (omega (arith, a.0), omega (arith, a.1), omega arith), on_division d (note_setting (k + 36) 0) (key_action d (k + 36) 0) a.0 ∙ note_of d k (λ n. Perform (Lift d n)))
+    ((omega (arith, a.0), omega (arith, a.1), omega arith), on_division d (note_setting (k + 36) 0) (key_action d (k + 36) 0) a.0 ∙ note_of d k (λ n. Perform (Lift d n)))
 asked (Sustain d true) a =
-    (Controller d 64 127, (omega (arith, a), omega arith, omega arith), on_division d Nothing (Perform (Sustain d true)) a)
+    ((omega (arith, a), omega arith, omega arith), on_division d Nothing (Perform (Sustain d true)) a)
 asked (Sustain d false) a =
-    (Controller d 64 0, (omega (arith, a), omega arith, omega arith), on_division d Nothing (Perform (Sustain d false)) a)
+    ((omega (arith, a), omega arith, omega arith), on_division d Nothing (Perform (Sustain d false)) a)
 asked (Clear d) a =
-    (Controller d 123 0, (omega (arith, a), omega arith, omega arith), on_division d Nothing (Perform (Clear d)) a)
+    ((omega (arith, a), omega arith, omega arith), on_division d Nothing (Perform (Clear d)) a)
 asked (Turn k q) a =
-    (Controller 15 k q, (omega arith, omega (arith, a.0), a.1), ap (λ b. cond b (Perform (Turn k q)) Nothing) (let e : ltb k 64 ≡ true = grind (arith, nat_tests, a) in e))
+    ((omega arith, omega (arith, a.0), a.1), ap (λ b. cond b (Perform (Turn k q)) Nothing) (let e : ltb k 64 ≡ true = grind (arith, nat_tests, a) in e))
 asked (Capture p) a =
-    (NoteOn 15 p 64, (omega arith, omega (arith, a), omega arith), ap (λ b. cond b (Perform Cancel) (Perform (Capture p))) (let e : eqb p 127 ≡ false = grind (arith, nat_tests, a) in e))
-asked (Recall p) a = (Program 15 p, (omega arith, a), refl)
-asked Cancel a = (NoteOn 15 127 64, (omega arith, omega arith, omega arith), refl)
+    ((omega arith, omega (arith, a), omega arith), ap (λ b. cond b (Perform Cancel) (Perform (Capture p))) (let e : eqb p 127 ≡ false = grind (arith, nat_tests, a) in e))
+asked (Recall p) a = ((omega arith, a), refl)
+asked Cancel a = ((omega arith, omega arith, omega arith), refl)
 
 -- a note below that of key 0
 too_low : (d n v : ℕ) → d < 15 → n < 36 → note_action d n v ≡ LowNote d n

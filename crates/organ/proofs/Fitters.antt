@@ -10,10 +10,11 @@ use Rattle.board.specs.declared.board.RelayBoard.{RelayBoard}
 use Rattle.board.specs.declared.fault.BoardFault.{BoardFault}
 use Rattle.board.specs.declared.lead.Lead.{Lead}
 use Rattle.board.specs.Wires.{Reaches}
+use Rattle.board.specs.Layout.{layout}
 use Rattle.board.specs.RelayBoard.{meaning_of}
 use Rattle.board.specs.Fitting.{lead_of}
-use Rattle.organ.specs.declared.assembly.Refusal.{Refusal}
-use Rattle.organ.specs.Assembly.{unless_refused, hung_on, hang_after, hang_all, stack_meaning, Assembles}
+use Rattle.organ.specs.declared.refusal.Refusal.{Refusal}
+use Rattle.organ.specs.Assembly.{unless_refused, hung_on, hang_after, hang_all, coupler_layout, stack_meaning, Assembles}
 use Rattle.organ.specs.Fitter.{just_its_own, each_its_own, answer_after, AllTaken, RefusedFor, FittedInOrder}
 
 -- a board's own wires of two lists
@@ -104,7 +105,7 @@ module _ (keys : Reaches) (m : Meaning) where
     with_all (Ok s) t made =
         record {
           refused = λ r. (λ e. absurd (ok_err s r e), λ f. absurd (ok_err tt r.fault (sym (all_taken ws t f.front f.wire f.rest f.are) ∙ f.refused)));
-          taken = (all_taken ws t, made.1);
+          taken = (all_taken ws t, made.1, made.2);
         }
 
     -- one was refused
@@ -112,7 +113,7 @@ module _ (keys : Reaches) (m : Meaning) where
     with_one x e is one made =
         record {
           refused = λ r. (λ q. subst (RefusedFor keys m ws) (err_same e r (sym made ∙ q)) one, λ f. made ∙ ap Err (err_same e r (sym is ∙ hangs_so r f)));
-          taken = subst (λ y. IfOk y (λ stack. AllTaken keys m ws × (meaning_of (meaning_of meaning) stack ≡ stack_meaning keys m (each_its_own ws)))) (sym made) tt;
+          taken = subst (λ y. IfOk y (λ stack. AllTaken keys m ws × (meaning_of (meaning_of meaning) stack ≡ stack_meaning keys m (each_its_own ws)) × (layout stack.wiring ≡ coupler_layout keys m (just_its_own Coupler ws)))) (sym made) tt;
         }
       where
         hangs_so : (r : Refusal) → RefusedFor keys m ws r → hang_all keys m ws ≡ Err r

@@ -13,7 +13,7 @@ use Rattle.console.specs.PistonTable.{scope_of}
 use Rattle.console.specs.Model.{first}
 use Rattle.console.specs.Record.{Making}
 use Rattle.console.specs.Tracks.{Makes, setup_of}
-use Rattle.organ.specs.declared.assembly.Refusal.{Refusal}
+use Rattle.organ.specs.declared.refusal.Refusal.{Refusal}
 use Rattle.organ.specs.Assembly.{Hung, Assembles, stack_meaning}
 use Rattle.organ.specs.Tables.{book_steps, book_home, book_scope}
 use Rattle.organ.specs.Opening.{book_setup, organ_meaning, OrganTracks, Opens}

@@ -9,7 +9,7 @@ use Rattle.board.specs.Wires.{Reaches}
 use Rattle.board.specs.Layout.{Layout, with_wire}
 use Rattle.board.specs.Fitting.{fit_answer, lead_of}
 use Rattle.book.specs.Book.{same_board}
-use Rattle.organ.specs.Pass.{unless_stopped, fit_run}
+use Rattle.organ.specs.Pass.{unless_first_refused, fit_run}
 
 -- what a list of wires is read at past its end
 abbrev pub blank : BookWire
@@ -27,17 +27,17 @@ module _ (on : Board) (m : Meaning) (l : Layout) (ws : List BookWire) (n : ℕ) 
   abbrev next : Layout
   next = with_wire l (lead_of here.wire)
 
-  step : (b : Bool) → same_board on here.board ≡ b → fit_run on m l n (drop n ws) ≡ cond b (unless_stopped (fit_answer l m here.wire) n here.line (fit_run on m next (n + 1) rest)) (fit_run on m l (n + 1) rest)
+  step : (b : Bool) → same_board on here.board ≡ b → fit_run on m l n (drop n ws) ≡ cond b (unless_first_refused (fit_answer l m here.wire) n here.line (fit_run on m next (n + 1) rest)) (fit_run on m l (n + 1) rest)
   step b e =
       ap (fit_run on m l n) (drop_more ws n blank h)
-      ∙ ap (λ x. cond x (unless_stopped (fit_answer l m here.wire) n here.line (fit_run on m next (n + 1) rest)) (fit_run on m l (n + 1) rest)) e
+      ∙ ap (λ x. cond x (unless_first_refused (fit_answer l m here.wire) n here.line (fit_run on m next (n + 1) rest)) (fit_run on m l (n + 1) rest)) e
 
   pub skip_here : same_board on here.board ≡ false → fit_run on m l n (drop n ws) ≡ fit_run on m l (n + 1) rest
   skip_here e = step false e
 
   pub fit_here : (l' : Layout) → same_board on here.board ≡ true → fit_answer l m here.wire ≡ Ok tt → l' ≡ with_wire l (lead_of here.wire) → fit_run on m l n (drop n ws) ≡ fit_run on m l' (n + 1) rest
   fit_here l' e a is =
-      step true e ∙ ap (λ x. unless_stopped x n here.line (fit_run on m next (n + 1) rest)) a ∙ ap (λ x. fit_run on m x (n + 1) rest) (sym is)
+      step true e ∙ ap (λ x. unless_first_refused x n here.line (fit_run on m next (n + 1) rest)) a ∙ ap (λ x. fit_run on m x (n + 1) rest) (sym is)
 
 -- of the chest below only its reaches matter
 with_reach : Meaning → Reaches → Meaning
@@ -49,4 +49,4 @@ unfolding with_reach
 run_reach on m n e l k [] = refl
 run_reach on m n e l k (w ∷ ws) =
     let answer : fit_answer l m w.wire ≡ fit_answer l n w.wire = λ i. fit_answer l (with_reach m (e i)) w.wire in
-    λ i. cond (same_board on w.board) (unless_stopped (answer i) k w.line (run_reach on m n e (with_wire l (lead_of w.wire)) (k + 1) ws i)) (run_reach on m n e l (k + 1) ws i)
+    λ i. cond (same_board on w.board) (unless_first_refused (answer i) k w.line (run_reach on m n e (with_wire l (lead_of w.wire)) (k + 1) ws i)) (run_reach on m n e l (k + 1) ws i)

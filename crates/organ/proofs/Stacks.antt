@@ -14,11 +14,11 @@ use Rattle.board.specs.Layout.{Layout, layout, with_wire}
 use Rattle.board.specs.RelayBoard.{board_meaning, meaning_of, Settled}
 use Rattle.board.specs.Fitting.{fit_answer, lead_of}
 use Rattle.board.specs.Making.{new_layout}
-use Rattle.organ.specs.declared.assembly.Refusal.{Refusal}
+use Rattle.organ.specs.declared.refusal.Refusal.{Refusal}
 use Rattle.book.specs.Book.{same_board}
-use Rattle.organ.specs.declared.assembly.Stopped.{Stopped}
+use Rattle.organ.specs.declared.assembly.FirstRefused.{FirstRefused}
 use Rattle.organ.specs.Assembly.{Hung, bare, hang_all, stop_layout, stop_meaning, coupler_layout, stack_meaning, Assembles}
-use Rattle.organ.specs.Pass.{unless_stopped, fit_run, earlier_of}
+use Rattle.organ.specs.Pass.{unless_first_refused, fit_run, earlier_of}
 use Rattle.organ.proofs.Passes.{both, passes}
 use Rattle.organ.proofs.Runs.{run_reach}
 
@@ -26,15 +26,15 @@ abbrev with_wires : Layout → List Lead → Layout
 with_wires l ws = record { reach = l.reach; below = l.below; wires = ws; panel = l.panel; register = l.register }
 
 -- a run changes nothing of a board but its wires
-abbrev Keeps : Layout → Result Layout Stopped → Type 0
+abbrev Keeps : Layout → Result Layout FirstRefused → Type 0
 Keeps l (Ok l') = l' ≡ with_wires l l'.wires
 Keeps l (Err e) = Unit {0}
 
-keeps_one : (l : Layout) (w : Lead) (r : Result Layout Stopped) → Keeps (with_wire l w) r → Keeps l r
+keeps_one : (l : Layout) (w : Lead) (r : Result Layout FirstRefused) → Keeps (with_wire l w) r → Keeps l r
 keeps_one l w (Ok l') k = k
 keeps_one l w (Err e) k = tt
 
-keeps_either : (l : Layout) (b : Bool) (a : Result Unit BoardFault) (n line : ℕ) (x y : Result Layout Stopped) → Keeps l x → Keeps l y → Keeps l (cond b (unless_stopped a n line x) y)
+keeps_either : (l : Layout) (b : Bool) (a : Result Unit BoardFault) (n line : ℕ) (x y : Result Layout FirstRefused) → Keeps l x → Keeps l y → Keeps l (cond b (unless_first_refused a n line x) y)
 keeps_either l true (Ok u) n line x y k j = k
 keeps_either l true (Err e) n line x y k j = tt
 keeps_either l false a n line x y k j = j
@@ -55,7 +55,7 @@ module _ (keys : Reaches) (m : Meaning) (ws : List BookWire) where
   stop_new reaches below l k b is =
       is ∙ (λ i. record { reach = k i; below = (b i).reach; wires = []; panel = (b i).panel; register = none })
 
-  pub stop_run : (below : Meaning) (l : Layout) (x : Result Layout Stopped) → below ≡ with_register m none → l ≡ stop_layout keys m [] → fit_run Stop below l 0 ws ≡ x → fit_run Stop m (stop_layout keys m []) 0 ws ≡ x
+  pub stop_run : (below : Meaning) (l : Layout) (x : Result Layout FirstRefused) → below ≡ with_register m none → l ≡ stop_layout keys m [] → fit_run Stop below l 0 ws ≡ x → fit_run Stop m (stop_layout keys m []) 0 ws ≡ x
   stop_run below l x b is run =
       run_reach Stop m below (sym (ap (λ y. y.reach) b)) (stop_layout keys m []) 0 ws ∙ ap (λ y. fit_run Stop below y 0 ws) (sym is) ∙ run
 
@@ -64,12 +64,12 @@ module _ (keys : Reaches) (m : Meaning) (ws : List BookWire) where
   coupler_new reaches below l k r p is =
       is ∙ (λ i. record { reach = k i; below = r i; wires = []; panel = p i; register = none })
 
-  pub coupler_run : (below : Meaning) (l : Layout) (x : Result Layout Stopped) → below.reach ≡ keys → l ≡ coupler_layout keys m [] → fit_run Coupler below l 0 ws ≡ x → fit_run Coupler (stop_meaning keys m []) (coupler_layout keys m []) 0 ws ≡ x
+  pub coupler_run : (below : Meaning) (l : Layout) (x : Result Layout FirstRefused) → below.reach ≡ keys → l ≡ coupler_layout keys m [] → fit_run Coupler below l 0 ws ≡ x → fit_run Coupler (stop_meaning keys m []) (coupler_layout keys m []) 0 ws ≡ x
   coupler_run below l x r is run =
       run_reach Coupler (stop_meaning keys m []) below (sym r) (coupler_layout keys m []) 0 ws ∙ ap (λ y. fit_run Coupler below y 0 ws) (sym is) ∙ run
 
   -- what both runs come to
-  pub hung : (x y : Result Layout Stopped) → fit_run Coupler (stop_meaning keys m []) (coupler_layout keys m []) 0 ws ≡ x → fit_run Stop m (stop_layout keys m []) 0 ws ≡ y → hang_all keys m ws ≡ both x y
+  pub hung : (x y : Result Layout FirstRefused) → fit_run Coupler (stop_meaning keys m []) (coupler_layout keys m []) 0 ws ≡ x → fit_run Stop m (stop_layout keys m []) 0 ws ≡ y → hang_all keys m ws ≡ both x y
   hung x y c s = sym (passes keys m bare 0 ws) ∙ λ i. both (c i) (s i)
 
   -- and what the stack then means
@@ -87,8 +87,8 @@ module _ {C : Type 0} (meaning : C → Meaning) (settled : C → Type 0) where
 
 -- the runs of the boards that assembling makes and fits, from what each of its calls promises
 pub record Runs {C : Type 0} (meaning : C → Meaning) (settled : C → Type 0) (keys : Reaches) (m : Meaning) (ws : List BookWire) (s0 s1 : RelayBoard C) (c0 c1 : RelayBoard (RelayBoard C)) : Type 0 where
-  pub stop : (y : Result Layout Stopped) → fit_run Stop (meaning s0.below.chest) (layout s0.wiring) 0 ws ≡ y → fit_run Stop m (stop_layout keys m []) 0 ws ≡ y
-  pub coupler : (x : Result Layout Stopped) → fit_run Coupler (meaning_of meaning c0.below.chest) (layout c0.wiring) 0 ws ≡ x → fit_run Coupler (stop_meaning keys m []) (coupler_layout keys m []) 0 ws ≡ x
+  pub stop : (y : Result Layout FirstRefused) → fit_run Stop (meaning s0.below.chest) (layout s0.wiring) 0 ws ≡ y → fit_run Stop m (stop_layout keys m []) 0 ws ≡ y
+  pub coupler : (x : Result Layout FirstRefused) → fit_run Coupler (meaning_of meaning c0.below.chest) (layout c0.wiring) 0 ws ≡ x → fit_run Coupler (stop_meaning keys m []) (coupler_layout keys m []) 0 ws ≡ x
   pub foot : meaning s1.below.chest ≡ with_register m none
   pub low : meaning_of meaning c1.below.chest ≡ with_register (meaning_of meaning s1) none
   pub steady : Settled (meaning_of meaning) (Settled meaning settled) c1
@@ -111,11 +111,11 @@ module _ {C : Type 0} {meaning : C → Meaning} {settled : C → Type 0} (keys :
       }
 
   -- what assembling comes to
-  pub hangs : Runs meaning settled keys m ws s0 s1 c0 c1 → (x y : Result Unit Stopped) → MatchResult x (λ u. fit_run Coupler (meaning_of meaning c0.below.chest) (layout c0.wiring) 0 ws ≡ Ok (layout c1.wiring)) (λ e. fit_run Coupler (meaning_of meaning c0.below.chest) (layout c0.wiring) 0 ws ≡ Err e) → MatchResult y (λ u. fit_run Stop (meaning s0.below.chest) (layout s0.wiring) 0 ws ≡ Ok (layout s1.wiring)) (λ e. fit_run Stop (meaning s0.below.chest) (layout s0.wiring) 0 ws ≡ Err e) → Hangs meaning settled keys m (hang_all keys m ws) c1 (earlier_of x y)
+  pub hangs : Runs meaning settled keys m ws s0 s1 c0 c1 → (x y : Result Unit FirstRefused) → MatchResult x (λ u. fit_run Coupler (meaning_of meaning c0.below.chest) (layout c0.wiring) 0 ws ≡ Ok (layout c1.wiring)) (λ e. fit_run Coupler (meaning_of meaning c0.below.chest) (layout c0.wiring) 0 ws ≡ Err e) → MatchResult y (λ u. fit_run Stop (meaning s0.below.chest) (layout s0.wiring) 0 ws ≡ Ok (layout s1.wiring)) (λ e. fit_run Stop (meaning s0.below.chest) (layout s0.wiring) 0 ws ≡ Err e) → Hangs meaning settled keys m (hang_all keys m ws) c1 (earlier_of x y)
   hangs f (Ok u) (Ok v) c s =
       let cr = f.coupler _ c in
       let sr = f.stop _ s in
-      subst (λ h. Hangs meaning settled keys m h c1 (Ok tt)) (sym (hung keys m ws _ _ cr sr)) (f.steady, stack_means keys m ws (layout c1.wiring) (layout s1.wiring) (meaning s1.below.chest) (meaning_of meaning c1.below.chest) cr sr f.foot f.low)
+      subst (λ h. Hangs meaning settled keys m h c1 (Ok tt)) (sym (hung keys m ws _ _ cr sr)) (f.steady, stack_means keys m ws (layout c1.wiring) (layout s1.wiring) (meaning s1.below.chest) (meaning_of meaning c1.below.chest) cr sr f.foot f.low, run_wires Coupler (stop_meaning keys m []) (coupler_layout keys m []) (layout c1.wiring) ws cr)
   hangs f (Ok u) (Err b) c s =
       subst (λ h. Hangs meaning settled keys m h c1 (Err b.refusal)) (sym (hung keys m ws _ _ (f.coupler _ c) (f.stop _ s))) refl
   hangs f (Err a) (Ok v) c s =

@@ -1,4 +1,4 @@
--- What a message of the line asks of the console. Assumes nothing.
+-- What a message of the MIDI line asks of the console. Assumes nothing.
 use Rattle.std.specs.Prelude.{ℕ, ◌-◌, cond, ◌==◌, nat_le, nat_lt}
 use Rattle.midi.specs.declared.message.Message.{Message}
 use Rattle.midi.specs.declared.message.Message.TheVariants.{NoteOff, NoteOn, KeyPressure, Controller, Program, ChannelPressure, Bend}
@@ -40,9 +40,9 @@ note_action channel note velocity =
 
 -- a note-off is a note-on with velocity 0
 abbrev pub action_of : Message → Action
-action_of (NoteOff channel key velocity) = note_action channel key 0
-action_of (NoteOn channel key velocity) = note_action channel key velocity
-action_of (KeyPressure channel key pressure) = Nothing
+action_of (NoteOff channel note velocity) = note_action channel note 0
+action_of (NoteOn channel note velocity) = note_action channel note velocity
+action_of (KeyPressure channel note pressure) = Nothing
 action_of (Controller channel controller value) = controller_action channel controller value
 action_of (Program channel program) = on_channel channel Nothing (Perform (Recall program))
 action_of (ChannelPressure channel pressure) = Nothing

@@ -1,4 +1,4 @@
--- A line of messages, answered: what each message came to, the record of the calls, and the listing. Assumes nothing.
+-- A list of messages, answered: what each message came to, the record of the calls, and the listing. Assumes nothing.
 use Rattle.std.specs.Prelude.{◌≡◌, ℕ, List, [], ◌∷◌, ◌++◌}
 use Rattle.std.specs.List.{flat_map}
 use Rattle.chest.specs.Meaning.{Meaning}

@@ -1,7 +1,7 @@
 -- Which calls a MIDI line can ask for, by their numbers. Assumes nothing.
-use Rattle.std.specs.Prelude.{◌≡◌, ℕ, ◌<◌, codes}
+use Rattle.std.specs.Prelude.{◌≡◌, ℕ, ◌+◌, ◌<◌, cond, codes}
 use Rattle.midi.specs.declared.message.Message.{Message}
-use Rattle.midi.specs.declared.message.Message.TheVariants.{NoteOff, NoteOn}
+use Rattle.midi.specs.declared.message.Message.TheVariants.{NoteOff, NoteOn, Controller, Program}
 use Rattle.midi.specs.Reading.{InRange}
 use Rattle.console.specs.declared.call.Call.{Call}
 use Rattle.console.specs.declared.call.Call.TheVariants.{Press, Lift, Sustain, Clear, Turn, Capture, Recall, Cancel}
@@ -22,6 +22,18 @@ Askable (Capture piston) = piston < 127
 Askable (Recall piston) = piston < 128
 Askable Cancel = Unit {0}
 
+-- a message that asks for each of these: note on with velocity 64, note off, controllers 64 and 123 of the division;
+-- of channel 15 the controller of the knob, the note or the program of the piston, and note 127
+abbrev pub asker : Call → Message
+asker (Press division key) = NoteOn division (key + 36) 64
+asker (Lift division key) = NoteOff division (key + 36) 64
+asker (Sustain division on) = Controller division 64 (cond on 127 0)
+asker (Clear division) = Controller division 123 0
+asker (Turn knob position) = Controller 15 knob position
+asker (Capture piston) = NoteOn 15 piston 64
+asker (Recall piston) = Program 15 piston
+asker Cancel = NoteOn 15 127 64
+
 -- a message asks for a call
 abbrev pub Asks : Message → Call → Type 0
 Asks m call = action_of m ≡ Perform call
@@ -31,8 +43,8 @@ pub record AskingLaw : Type 0 where
   pub only : (m : Message) (call : Call) → InRange m → Asks m call → Askable call
   -- and for one at most
   pub one : (m : Message) (call other : Call) → Asks m call → Asks m other → call ≡ other
-  -- for each of these calls there is a message that asks for it
-  pub each : (call : Call) → Askable call → (m : Message) × InRange m × Asks m call
+  -- for each of these calls the message above asks for it
+  pub each : (call : Call) → Askable call → InRange (asker call) × Asks (asker call) call
   -- a note below 36 of a division asks for none, whatever its velocity, and is answered by the line of fault 2
   pub low : (division note velocity : ℕ) → division < 15 → note < 36 → (action_of (NoteOn division note velocity) ≡ LowNote division note) × (action_of (NoteOff division note velocity) ≡ LowNote division note)
   pub low_line : (division note : ℕ) → line_bytes (Fault (low_note division note)) ≡ codes "(fault 2)\n"

@@ -10,10 +10,10 @@ use Rattle.board.specs.declared.fault.BoardFault.{BoardFault}
 use Rattle.fittings.specs.declared.Wire.{Wire}
 use Rattle.board.specs.declared.lead.Lead.{Lead}
 use Rattle.board.specs.Wires.{Reaches, image}
-use Rattle.board.specs.Layout.{Layout}
+use Rattle.board.specs.Layout.{Layout, layout}
 use Rattle.board.specs.RelayBoard.{board_meaning, meaning_of, Settled}
 use Rattle.board.specs.Fitting.{fit_answer, lead_of}
-use Rattle.organ.specs.declared.assembly.Refusal.{Refusal}
+use Rattle.organ.specs.declared.refusal.Refusal.{Refusal}
 
 -- a wire that its board refuses is one fault of a book, whatever the board's own fault is
 abbrev pub refusal_number : Refusal → ℕ
@@ -75,10 +75,10 @@ module _ (keys : Reaches) (m : Meaning) where
       }
 
 module _ {C : Type 0} (meaning : C → Meaning) (settled : C → Type 0) where
-  -- the settled stack of all wires, or just the first refusal
+  -- the settled stack of all wires, with the coupler board's on top; or just the first refusal
   abbrev pub Assembles : Reaches → Meaning → Result Hung Refusal → Result (RelayBoard (RelayBoard C)) Refusal → Type 0
   Assembles keys m (Ok h) (Ok s) =
-      Settled (meaning_of meaning) (Settled meaning settled) s × (meaning_of (meaning_of meaning) s ≡ stack_meaning keys m h)
+      Settled (meaning_of meaning) (Settled meaning settled) s × (meaning_of (meaning_of meaning) s ≡ stack_meaning keys m h) × (layout s.wiring ≡ coupler_layout keys m h.couplers)
   Assembles keys m (Ok h) (Err e) = ⊥
   Assembles keys m (Err e) (Ok s) = ⊥
   Assembles keys m (Err e) (Err f) = f ≡ e

@@ -9,10 +9,11 @@ use Rattle.board.specs.declared.board.RelayBoard.{RelayBoard}
 use Rattle.board.specs.declared.fault.BoardFault.{BoardFault}
 use Rattle.board.specs.declared.lead.Lead.{Lead}
 use Rattle.board.specs.Wires.{Reaches}
+use Rattle.board.specs.Layout.{layout}
 use Rattle.board.specs.RelayBoard.{meaning_of}
 use Rattle.board.specs.Fitting.{lead_of}
-use Rattle.organ.specs.declared.assembly.Refusal.{Refusal}
-use Rattle.organ.specs.Assembly.{Hung, board_answer, stack_meaning}
+use Rattle.organ.specs.declared.refusal.Refusal.{Refusal}
+use Rattle.organ.specs.Assembly.{Hung, board_answer, coupler_layout, stack_meaning}
 
 -- those of a list of wires that are for this board, in their order, as it keeps them
 abbrev pub just_its_own : Board → List BookWire → List Lead
@@ -45,4 +46,4 @@ module _ (keys : Reaches) (m : Meaning) where
   -- a stack is refused for a wire exactly if that is so; else all wires are taken, and each board has just its own
   pub record FittedInOrder {C : Type 0} (meaning : C → Meaning) (ws : List BookWire) (result : Result (RelayBoard (RelayBoard C)) Refusal) : Type 0 where
     pub refused : (r : Refusal) → (result ≡ Err r) ↔ RefusedFor ws r
-    pub taken : IfOk result (λ stack. AllTaken ws × (meaning_of (meaning_of meaning) stack ≡ stack_meaning keys m (each_its_own ws)))
+    pub taken : IfOk result (λ stack. AllTaken ws × (meaning_of (meaning_of meaning) stack ≡ stack_meaning keys m (each_its_own ws)) × (layout stack.wiring ≡ coupler_layout keys m (just_its_own Coupler ws)))

@@ -10,7 +10,7 @@ use Rattle.console.specs.declared.console.Console.{Console}
 use Rattle.console.specs.Model.{Setup, Model, first}
 use Rattle.console.specs.Record.{Making}
 use Rattle.console.specs.Tracks.{Tracks}
-use Rattle.organ.specs.declared.assembly.Refusal.{Refusal}
+use Rattle.organ.specs.declared.refusal.Refusal.{Refusal}
 use Rattle.organ.specs.Assembly.{Hung, stack_meaning}
 use Rattle.organ.specs.Tables.{book_steps, book_home, book_scope}
 

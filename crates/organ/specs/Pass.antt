@@ -7,22 +7,22 @@ use Rattle.book.specs.Book.{on_board}
 use Rattle.board.specs.declared.fault.BoardFault.{BoardFault}
 use Rattle.board.specs.Layout.{Layout, with_wire}
 use Rattle.board.specs.Fitting.{fit_answer, lead_of}
-use Rattle.organ.specs.declared.assembly.Refusal.{Refusal}
-use Rattle.organ.specs.declared.assembly.Stopped.{Stopped}
+use Rattle.organ.specs.declared.refusal.Refusal.{Refusal}
+use Rattle.organ.specs.declared.assembly.FirstRefused.{FirstRefused}
 
-abbrev pub unless_stopped : Result Unit BoardFault → ℕ → ℕ → Result Layout Stopped → Result Layout Stopped
-unless_stopped (Ok x) number line rest = rest
-unless_stopped (Err e) number line rest =
+abbrev pub unless_first_refused : Result Unit BoardFault → ℕ → ℕ → Result Layout FirstRefused → Result Layout FirstRefused
+unless_first_refused (Ok x) number line rest = rest
+unless_first_refused (Err e) number line rest =
     Err (record { number = number; refusal = record { line = line; fault = e } })
 
 -- a board over a chest takes its own wires of a list, which are numbered from n on: all, or the first that it refuses
-abbrev pub fit_run : Board → Meaning → Layout → ℕ → List BookWire → Result Layout Stopped
+abbrev pub fit_run : Board → Meaning → Layout → ℕ → List BookWire → Result Layout FirstRefused
 fit_run on m l n [] = Ok l
 fit_run on m l n (w ∷ ws) =
-    cond (on_board on w) (unless_stopped (fit_answer l m w.wire) n w.line (fit_run on m (with_wire l (lead_of w.wire)) (n + 1) ws)) (fit_run on m l (n + 1) ws)
+    cond (on_board on w) (unless_first_refused (fit_answer l m w.wire) n w.line (fit_run on m (with_wire l (lead_of w.wire)) (n + 1) ws)) (fit_run on m l (n + 1) ws)
 
 -- the refusal of the earlier wire, if there is one
-abbrev pub earlier_of : Result Unit Stopped → Result Unit Stopped → Result Unit Refusal
+abbrev pub earlier_of : Result Unit FirstRefused → Result Unit FirstRefused → Result Unit Refusal
 earlier_of (Ok x) (Ok y) = Ok tt
 earlier_of (Ok x) (Err f) = Err f.refusal
 earlier_of (Err e) (Ok y) = Err e.refusal

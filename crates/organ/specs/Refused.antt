@@ -1,6 +1,6 @@
 -- The one line that is listed for a book that is refused. Assumes nothing.
 use Rattle.book.specs.declared.book_fault.BookFault.{BookFault}
-use Rattle.organ.specs.declared.assembly.Refusal.{Refusal}
+use Rattle.organ.specs.declared.refusal.Refusal.{Refusal}
 use Rattle.organ.specs.declared.line.Line.{Line}
 use Rattle.organ.specs.declared.line.Line.TheVariants.{Book, Wire}
 

@@ -1,4 +1,4 @@
-//! What a message of the line asks of the console.
+//! What a message of the MIDI line asks of the console.
 ghost use Rattle.std.specs.Prelude.{◌≡◌};
 ghost use Rattle.organ.specs.Action.{action_of, key_action, low_note, note_setting, note_action, controller_action};
 
@@ -29,7 +29,7 @@ pub enum Action {
     LowNote { division: usize, note: usize },
 }
 
-// The fault of a note below that of key 0: no key has it, so the fault carries the note.
+// The fault of a note below that of key 0. No key has this note, so the fault carries the note itself.
 pub(crate) fn low_note(division: usize, note: usize) -> PlayFault
     ensures { result ≡ low_note division note }
 {
@@ -107,10 +107,10 @@ impl From<Message> for Action {
         match message {
             Message::NoteOn {
                 channel,
-                key,
+                note,
                 velocity,
-            } => note_action(channel, key, velocity),
-            Message::NoteOff { channel, key, .. } => note_action(channel, key, 0),
+            } => note_action(channel, note, velocity),
+            Message::NoteOff { channel, note, .. } => note_action(channel, note, 0),
             Message::Controller {
                 channel,
                 controller,

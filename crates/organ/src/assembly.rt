@@ -4,36 +4,20 @@ ghost use Rattle.board.specs.RelayBoard.{Settled};
 ghost use Rattle.board.specs.Layout.{layout};
 ghost use Rattle.chest.specs.Reaches.{reach_of};
 ghost use Rattle.book.specs.Book.{keys_in};
-ghost use Rattle.organ.specs.Assembly.{refusal_number, hang_all, Assembles};
+ghost use Rattle.organ.specs.Assembly.{hang_all, Assembles};
 ghost use Rattle.organ.specs.Fitter.{FittedInOrder};
 ghost use Rattle.organ.specs.Pass.{fit_run, earlier_of};
 
+use crate::refusal::Refusal;
 use crate::stack::Stack;
 use board::board::RelayBoard;
-use board::fault::BoardFault;
 use book::{Board, Book, BookWire};
 use chest::chest::{Chest, ROWS};
 use std::array;
 
-/// A wire that its board refuses, with the line where the book has it.
-#[derive(Clone, Copy, Debug, PartialEq)]
-pub struct Refusal {
-    pub line: usize,
-    pub fault: BoardFault,
-}
-
-impl Refusal {
-    /// The number under which a refused wire is documented; the board's own fault says why.
-    pub fn number(self) -> u8
-        ensures { result ≡ refusal_number self }
-    {
-        37
-    }
-}
-
 // The first wire that a board refuses, with its number among the wires of the book.
 #[derive(Clone, Copy, Debug, PartialEq)]
-struct Stopped {
+struct FirstRefused {
     number: usize,
     refusal: Refusal,
 }
@@ -43,7 +27,7 @@ fn fit_all<C: Chest>(
     board: &mut RelayBoard<C>,
     wires: &[BookWire],
     on: Board,
-) -> Result<(), Stopped>
+) -> Result<(), FirstRefused>
     ensures cases { MatchResult result (λ _. fit_run on (C.Chest.meaning board.old.below.chest) (layout board.old.wiring) 0 wires.now ≡ Ok (layout board.new.wiring)) (λ e. fit_run on (C.Chest.meaning board.old.below.chest) (layout board.old.wiring) 0 wires.now ≡ Err e) }
     ensures reach { (layout board.new.wiring).reach ≡ (layout board.old.wiring).reach }
     ensures below { board.new.below ≡ board.old.below }
@@ -51,7 +35,7 @@ fn fit_all<C: Chest>(
 {
     for (number, wire) in wires.iter().enumerate() {
         if wire.board == on {
-            board.fit(wire.wire).map_err(|fault| Stopped {
+            board.fit(wire.wire).map_err(|fault| FirstRefused {
                 number,
                 refusal: Refusal {
                     line: wire.line,
@@ -64,14 +48,14 @@ fn fit_all<C: Chest>(
 }
 
 // The refusal of the earlier wire, if there is one.
-fn earlier(coupler: Result<(), Stopped>, stop: Result<(), Stopped>) -> Result<(), Refusal>
+fn earlier(coupler: Result<(), FirstRefused>, stop: Result<(), FirstRefused>) -> Result<(), Refusal>
     ensures { result ≡ earlier_of coupler stop }
 {
-    let stopped = match (coupler, stop) {
+    let refused = match (coupler, stop) {
         (Err(e), Err(f)) => Err(if e.number < f.number { e } else { f }),
         (coupler, stop) => coupler.and(stop),
     };
-    stopped.map_err(|s| s.refusal)
+    refused.map_err(|s| s.refusal)
 }
 
 // The stack with these reaches and wires over a bottom chest, or the first wire that its board refuses.

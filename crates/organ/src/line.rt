@@ -4,7 +4,7 @@ ghost use Rattle.organ.specs.Line.{line_bytes, HasSpace, Grown, HasRoom, LacksRo
 ghost use Rattle.organ.specs.Refused.{fault_line, refusal_line};
 ghost use Rattle.organ.specs.Responses.{line_of};
 
-use crate::assembly::Refusal;
+use crate::refusal::Refusal;
 use book::BookFault;
 use console::fault::PlayFault;
 use itoa::{Buffer, Integer};
@@ -13,6 +13,7 @@ use std::alloc::AllocError;
 /// The most bytes that a line can have: a word, two numbers of 20 digits, brackets, spaces and its end.
 pub const LONGEST_LINE: usize = 64;
 
+/// A line of a listing.
 #[derive(Clone, Copy, Debug, PartialEq)]
 pub enum Line {
     /// A call was done, and this many pipes changed.

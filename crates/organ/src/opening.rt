@@ -5,7 +5,8 @@ ghost use Rattle.bottom.specs.MagnetChest.{magnet_meaning, MagnetSettled};
 ghost use Rattle.organ.specs.Assembly.{hang_all};
 ghost use Rattle.organ.specs.Opening.{Opens, new_ranks};
 
-use crate::assembly::{Refusal, assemble};
+use crate::assembly::assemble;
+use crate::refusal::Refusal;
 use crate::stack::Stack;
 use crate::tables::{knob_table, piston_table};
 use book::Book;

@@ -1,11 +1,15 @@
 //! The stack of an organ: coupler board over stop board over a bottom chest.
-ghost use Rattle.std.specs.Prelude.{◌≡◌, length, take};
+ghost use Rattle.std.specs.Prelude.{◌≡◌, ◌≤◌, length, take};
 ghost use Rattle.bottom.specs.Foot.{new_bottom};
 ghost use Rattle.bottom.specs.MagnetChest.{magnet_meaning, MagnetSettled};
-ghost use Rattle.bottom.specs.MidiChest.{midi_meaning, midi_sent};
+ghost use Rattle.bottom.specs.MidiChest.{midi_meaning, MidiSettled, midi_sent};
 ghost use Rattle.bottom.specs.Receiver.{DrainLaw};
+ghost use Rattle.bottom.specs.Sending.{MidiSends};
+ghost use Rattle.board.specs.Layout.{layout};
 ghost use Rattle.board.specs.RelayBoard.{meaning_of, Settled};
-ghost use Rattle.board.specs.Making.{new_meaning};
+ghost use Rattle.board.specs.Making.{new_layout, new_meaning};
+ghost use Rattle.board.specs.Sending.{HandsOn};
+ghost use Rattle.console.specs.Sending.{Sends, StillTracks, Linked};
 
 use board::board::RelayBoard;
 use bottom::magnet_chest::MagnetChest;
@@ -13,11 +17,13 @@ use bottom::midi_chest::MidiChest;
 use chest::chest::ROWS;
 use console::console::Console;
 
+/// Coupler board over stop board.
 pub type Stack<C> = RelayBoard<RelayBoard<C>>;
 
-/// A stack over magnets with no wire yet, for a host that fits its own.
+/// Two boards without a wire over a magnet chest with these ranks, as every stack begins.
 pub fn bare_stack(keys: [u8; ROWS], ranks: [u8; ROWS]) -> Stack<MagnetChest>
     ensures settled { Settled (meaning_of magnet_meaning) (Settled magnet_meaning MagnetSettled) result }
+    ensures items { layout result.wiring ≡ new_layout keys (meaning_of magnet_meaning result.below.chest) }
     ensures value { meaning_of (meaning_of magnet_meaning) result ≡ new_meaning keys (new_meaning keys (new_bottom ranks)) }
 {
     let stops = RelayBoard::new(MagnetChest::new(ranks), keys);
@@ -26,7 +32,12 @@ pub fn bare_stack(keys: [u8; ROWS], ranks: [u8; ROWS]) -> Stack<MagnetChest>
 
 /// Has the MIDI chest at the foot of a console's stack write what its receiver is to be told.
 pub fn send_from_foot(console: &mut Console<Stack<MidiChest>>, buffer: &mut [u8]) -> usize
-    ensures { DrainLaw (midi_meaning console.old.chest.below.chest.below.chest).speaking (midi_sent console.old.chest.below.chest.below.chest) (midi_sent console.new.chest.below.chest.below.chest) (length buffer.old) (take result buffer.new) }
+    ensures law { Sends (HandsOn (HandsOn MidiSends)) console.old buffer.old result buffer.new console.new }
+    ensures same { meaning_of (meaning_of midi_meaning) console.new.chest ≡ meaning_of (meaning_of midi_meaning) console.old.chest }
+    ensures stands { StillTracks (meaning_of (meaning_of midi_meaning)) (Settled (meaning_of midi_meaning) (Settled midi_meaning MidiSettled)) console.old console.new }
+    ensures links { Linked (meaning_of (meaning_of midi_meaning)) (Settled (meaning_of midi_meaning) (Settled midi_meaning MidiSettled)) console.old console.new }
+    ensures bound { result ≤ length buffer.new }
+    ensures foot { DrainLaw (midi_meaning console.old.chest.below.chest.below.chest).speaking (midi_sent console.old.chest.below.chest.below.chest) (midi_sent console.new.chest.below.chest.below.chest) (length buffer.old) (take result buffer.new) }
 {
     console.send(buffer)
 }

@@ -7,6 +7,6 @@ use Rattle.pipes.specs.declared.stopped.Stopped.TheVariants.{Book, Memory, Input
 -- nothing is claimed of the system's words
 abbrev pub words_of : Stopped → Option (List ℕ)
 words_of (Book u) = sentence_of u
-words_of Memory = Some (codes "pipes: there is no memory for the listing")
+words_of Memory = Some (codes "pipes: there is no memory for the listing; end other programs")
 words_of (Input e) = None
 words_of (Output e) = None

@@ -16,7 +16,7 @@ const PORTION: usize = 4096;
 // The exit status where the program stops before the end of its input.
 const STOPPED: u8 = 2;
 
-// Plays each portion of the line as it comes, until the input ends.
+// Plays each portion of the MIDI line as it comes, until the input ends.
 fn play(
     rt: &HostRuntime,
     recital: &mut MagnetRecital,
@@ -42,7 +42,7 @@ fn play(
     Ok(())
 }
 
-// Prints one line.
+// Prints one line of the listing.
 fn tell(rt: &HostRuntime, line: Line, listing: &mut Vec<u8>) -> Result<(), Stopped> {
     line.add_to(listing).map_err(|_| Stopped::Memory)?;
     rt.stdout()

@@ -7,7 +7,7 @@ use Rattle.book.specs.Book.{keys_in}
 use Rattle.book.specs.Entry.{Entry}
 use Rattle.book.specs.Grammar.{Judged, entries_of}
 use Rattle.book.specs.Reading.{Answers, read_of}
-use Rattle.organ.specs.declared.assembly.Refusal.{Refusal}
+use Rattle.organ.specs.declared.refusal.Refusal.{Refusal}
 use Rattle.organ.specs.declared.line.Line.{Line}
 use Rattle.organ.specs.Assembly.{Hung, stack_meaning}
 use Rattle.organ.specs.Line.{line_bytes}

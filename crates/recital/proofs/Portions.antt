@@ -20,7 +20,7 @@ use Rattle.console.specs.Record.{Entry, RecordLaw, last_meaning, last_model, pip
 use Rattle.console.specs.Tracks.{Tracks}
 use Rattle.organ.specs.declared.action.Action.{Action}
 use Rattle.organ.specs.declared.action.Action.TheVariants.{Nothing, Perform, LowNote}
-use Rattle.organ.specs.declared.assembly.Refusal.{Refusal}
+use Rattle.organ.specs.declared.refusal.Refusal.{Refusal}
 use Rattle.organ.specs.Action.{action_of}
 use Rattle.organ.specs.Assembly.{Hung}
 use Rattle.organ.specs.Answered.{Outcome, silent, low, did, IsOf, AreOf, call_in, line_in, Answered}

@@ -9,7 +9,7 @@ use Rattle.book.specs.Book.{keys_in, pipes_in}
 use Rattle.book.specs.Entry.{Entry, said, keys_of, pipes_of, knob_of, scope_of, wires_of}
 use Rattle.book.specs.Limits.{rows, knobs, pistons}
 use Rattle.console.specs.Model.{Setup}
-use Rattle.organ.specs.declared.assembly.Refusal.{Refusal}
+use Rattle.organ.specs.declared.refusal.Refusal.{Refusal}
 use Rattle.organ.specs.Assembly.{Hung, hang_all, stack_meaning}
 use Rattle.organ.specs.Opening.{new_ranks}
 

@@ -12,7 +12,7 @@ use Rattle.console.specs.Model.{Setup, Model, first, check, after}
 use Rattle.console.specs.Record.{Answer, pipes_of, strobing, answer_of}
 use Rattle.organ.specs.declared.action.Action.{Action}
 use Rattle.organ.specs.declared.action.Action.TheVariants.{Nothing, Perform, LowNote}
-use Rattle.organ.specs.declared.assembly.Refusal.{Refusal}
+use Rattle.organ.specs.declared.refusal.Refusal.{Refusal}
 use Rattle.organ.specs.Action.{action_of, low_note}
 use Rattle.organ.specs.declared.line.Line.TheVariants.{Fault}
 use Rattle.organ.specs.Assembly.{Hung}

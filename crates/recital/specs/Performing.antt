@@ -9,7 +9,7 @@ use Rattle.book.specs.Grammar.{Lines, text_of, entries_of, Good, Rejects}
 use Rattle.book.specs.Reading.{read_of}
 use Rattle.console.specs.Model.{Setup, first}
 use Rattle.console.specs.Record.{Entry, RecordLaw, Making}
-use Rattle.organ.specs.declared.assembly.Refusal.{Refusal}
+use Rattle.organ.specs.declared.refusal.Refusal.{Refusal}
 use Rattle.organ.specs.declared.line.Line.{Line}
 use Rattle.organ.specs.Assembly.{Hung}
 use Rattle.organ.specs.Answered.{Outcome, AreOf, call_in, answer_in, line_in}

@@ -16,7 +16,7 @@ use Rattle.bottom.specs.MagnetChest.{magnet_meaning, MagnetSettled}
 use Rattle.console.specs.declared.console.Console.{Console}
 use Rattle.console.specs.Model.{Setup, Model, first}
 use Rattle.console.specs.Tracks.{Tracks}
-use Rattle.organ.specs.declared.assembly.Refusal.{Refusal}
+use Rattle.organ.specs.declared.refusal.Refusal.{Refusal}
 use Rattle.organ.specs.Action.{action_of}
 use Rattle.organ.specs.Assembly.{Hung}
 use Rattle.organ.specs.Responses.{Responds}

@@ -1,4 +1,4 @@
-//! The parts put together: an organ that is opened from a book and played from a line, and one call for both.
+//! The parts put together: an organ that is opened from a book and played from a MIDI line, and one call for both.
 #![tactic(auto)]
 
 mod laws;

@@ -1,4 +1,4 @@
-//! A whole performance: from the text of a book and the bytes of a line to the listing.
+//! A whole performance: from the text of a book and the bytes of a MIDI line to the listing.
 ghost use Rattle.std.specs.Prelude.{◌≡◌, ◌+◌, true, ◌++◌, length, is_ok, OnErr, OnOk};
 ghost use Rattle.recital.specs.Listings.{listing_of};
 ghost use Rattle.recital.specs.Performing.{Performed};

@@ -1,4 +1,4 @@
-//! A recital: a console and the reader of its line, played as the bytes come.
+//! A recital: a console and the reader of its MIDI line, played as the bytes come.
 ghost use Rattle.std.specs.Prelude.{◌≡◌, ℕ, ◌+◌, ◌*◌, ◌<◌, ◌≤◌, true, List, [], length, is_ok, IfOk, Ok, vec_len, vec_capacity, MatchResult, OnErr, OnOk};
 ghost use Rattle.book.specs.Reading.{Answers, read_of};
 ghost use Rattle.console.specs.Sending.{Sends, StillTracks};
@@ -13,13 +13,14 @@ use chest::chest::Chest;
 use chest::sender::Sender;
 use console::console::Console;
 use midi::Reader;
-use organ::assembly::Refusal;
 use organ::line::{LONGEST_LINE, Line};
 use organ::opening::open_magnets;
+use organ::refusal::Refusal;
 use organ::response::respond;
 use organ::stack::Stack;
 use std::alloc::AllocError;
 
+/// A console with the reader of its MIDI line.
 #[derive(Drop)]
 pub struct Recital<C: Chest> {
     console: Console<C>,
@@ -29,7 +30,7 @@ pub struct Recital<C: Chest> {
 /// A recital on coupler board and stop board over a magnet chest.
 pub type MagnetRecital = Recital<Stack<MagnetChest>>;
 
-// Makes room for this many lines.
+// Makes room for this many lines of the listing.
 fn make_room(listing: &mut Vec<u8>, count: usize) -> Result<(), AllocError>
     ensures items { listing.new.items ≡ listing.old.items }
     ensures cases { MatchResult result (λ _. HasRoom listing.new count) (λ _. vec_capacity listing.old < vec_len listing.old + 64 * count) }
@@ -38,7 +39,7 @@ fn make_room(listing: &mut Vec<u8>, count: usize) -> Result<(), AllocError>
 }
 
 impl<C: Chest> Recital<C> {
-    /// A recital on this console, before the first byte of its line.
+    /// A recital on this console, before the first byte of its MIDI line.
     pub fn new(console: Console<C>) -> Recital<C>
         ensures value { (result.console ≡ console) × HasRead result.reader.state [] }
     {
@@ -55,7 +56,7 @@ impl<C: Chest> Recital<C> {
         &self.console
     }
 
-    // Reads one byte and answers the message that it ends, where there is room for its line.
+    // Reads one byte and answers the message that it ends, where there is room for its line of the listing.
     fn hear(&mut self, byte: u8, listing: &mut Vec<u8>)
         requires { HasRoom listing.old 1 }
         ensures law { Hears C.Chest.meaning C.Chest.settled self.old self.new byte listing.old.items listing.new.items }
@@ -66,7 +67,7 @@ impl<C: Chest> Recital<C> {
         }
     }
 
-    /// Reads the next bytes of the line and answers each message that they end. Room for their lines is made first:
+    /// Reads the next bytes of the MIDI line and answers each message that they end. Room for their lines is made first:
     /// where there is none, nothing is read and nothing is done.
     pub fn play(&mut self, bytes: &[u8], listing: &mut Vec<u8>) -> Result<(), AllocError>
         ensures law { OnOk result (GoesOn C.Chest.meaning C.Chest.settled self.old self.new bytes.now listing.old.items listing.new.items) }
@@ -106,7 +107,7 @@ impl Recital<Stack<MagnetChest>> {
         Ok(Recital::new(console))
     }
 
-    /// A recital on the organ of a book's text; or the one line that is listed for this text, whatever is played: that of
+    /// A recital on the organ of a book's text; or the one line of the listing for this text, whatever is played: that of
     /// its fault, or that of the first wire that its board refuses.
     pub fn open_text(text: &[u8]) -> Result<MagnetRecital, Line>
         ensures cases { BeginsOn text.now result }

@@ -2,7 +2,7 @@
 use Rattle.std.specs.Prelude.{◌-◌, false, cond, Some, None, Option, nat_lt}
 use Rattle.std.proofs.Common.{lit<}
 use Rattle.sets.specs.declared.rest.Rest.{Rest}
-use Rattle.sets.specs.declared.set.NumberSet.{NumberSet}
+use Rattle.sets.specs.declared.number_set.NumberSet.{NumberSet}
 use Rattle.sets.specs.declared.word.Word.{Word}
 use Rattle.sets.specs.Numbers.{Numbers, bits_of}
 

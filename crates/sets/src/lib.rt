@@ -2,9 +2,9 @@
 //! board walks the numbers of a set, and not all that there could be.
 #![tactic(auto)]
 
+mod number_set;
 mod rest;
-mod set;
 mod word;
 
+pub use number_set::NumberSet;
 pub use rest::Rest;
-pub use set::NumberSet;

@@ -2,7 +2,7 @@
 ghost use Rattle.std.specs.Prelude.{◌≡◌, ◌<◌, IfSome};
 ghost use Rattle.sets.specs.Numbers.{PopsFirst};
 
-use crate::set::WORD;
+use crate::number_set::WORD;
 use crate::word::Word;
 
 /// The word that is walked, and the high word while that is the low one. Not a set that shrinks: then a processor would hold

@@ -7,4 +7,4 @@ pub returns : goal.returns
 returns c =
     let stops = c.new-stops.ensures.after c.new.ensures.settled in
     let top = c.new-2.ensures.after stops.0 in
-    record { settled = top.0; value = top.1 ∙ ap (new_meaning c.args.keys) (stops.1 ∙ ap (new_meaning c.args.keys) c.new.ensures.value) }
+    record { settled = top.0; items = c.new-2.ensures.items; value = top.1 ∙ ap (new_meaning c.args.keys) (stops.1 ∙ ap (new_meaning c.args.keys) c.new.ensures.value) }

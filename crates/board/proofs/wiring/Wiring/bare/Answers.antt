@@ -6,7 +6,7 @@ use Rattle.chest.specs.Reaches.{reaches_of}
 use Rattle.chest.specs.Positions.{positions_of}
 use Rattle.sets.specs.Numbers.{nothing}
 use Rattle.sets.specs.NumberSet.{members, empty}
-use Rattle.sets.specs.declared.set.NumberSet.{NumberSet}
+use Rattle.sets.specs.declared.number_set.NumberSet.{NumberSet}
 use Rattle.sets.proofs.Joined.{members_empty}
 use Rattle.board.specs.Wires.{live}
 use Rattle.board.specs.Among.{among, leads_from, lands, waits}

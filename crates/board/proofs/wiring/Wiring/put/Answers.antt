@@ -4,7 +4,7 @@ use Rattle.std.proofs.lemmas.Bool.{cases_Bool, eqb-true, and_parts}
 use Rattle.std.proofs.lemmas.List.{length-set}
 use Rattle.chest.specs.Reaches.{reaches_of}
 use Rattle.chest.specs.Places.{put}
-use Rattle.sets.specs.declared.set.NumberSet.{NumberSet}
+use Rattle.sets.specs.declared.number_set.NumberSet.{NumberSet}
 use Rattle.sets.specs.Numbers.{with_number}
 use Rattle.sets.specs.NumberSet.{members, empty}
 use Rattle.board.specs.declared.wiring.Wiring.{Wiring}

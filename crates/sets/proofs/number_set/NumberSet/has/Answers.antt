@@ -1,7 +1,7 @@
 use Rattle.std.proofs.Common.{◌-◌, arith}
 use Rattle.std.proofs.lemmas.Bool.Decides.{nat_tests}
 use Rattle.sets.proofs.Bits.{bits_past}
-use Rattle.sets.proofs.set.NumberSet.has.Goals as goal
+use Rattle.sets.proofs.number_set.NumberSet.has.Goals as goal
 
 pub returns-else-number : goal.returns-else-number
 returns-else-number c =

@@ -1,7 +1,7 @@
 use Rattle.std.proofs.Common.{◌≡◌, ◌+◌, ◌-◌, ap, ◌∙◌, arith}
 use Rattle.sets.specs.Numbers.{bits_of, with_number}
 use Rattle.sets.proofs.Joined.{joined, joined_low, joined_high}
-use Rattle.sets.proofs.set.NumberSet.with.Goals as goal
+use Rattle.sets.proofs.number_set.NumberSet.with.Goals as goal
 
 pub returns-then-number-lt-WORD-clause-value : goal.returns-then-number-lt-WORD-clause-value
 returns-then-number-lt-WORD-clause-value c = λ h.

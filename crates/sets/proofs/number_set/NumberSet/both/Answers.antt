@@ -1,7 +1,7 @@
 use Rattle.std.proofs.Common.{◌∙◌}
 use Rattle.sets.specs.Numbers.{bits_of}
 use Rattle.sets.proofs.Joined.{joined, joined_both}
-use Rattle.sets.proofs.set.NumberSet.both.Goals as goal
+use Rattle.sets.proofs.number_set.NumberSet.both.Goals as goal
 
 pub returns : goal.returns
 returns c =

@@ -18,6 +18,7 @@ pub struct NumberSet {
 impl NumberSet {
     ghost use Rattle.sets.specs.NumberSet.{members, remaining};
 
+    /// The set of no number.
     pub fn none() -> NumberSet
         ensures { members result ≡ nothing }
     {
@@ -27,6 +28,7 @@ impl NumberSet {
         }
     }
 
+    /// Whether a number is in it: none past 127 is.
     pub fn has(self, number: usize) -> bool
         ensures { result ≡ members self number }
     {
@@ -62,6 +64,7 @@ impl NumberSet {
         }
     }
 
+    /// The numbers that are in both sets.
     pub fn both(self, other: NumberSet) -> NumberSet
         ensures { members result ≡ both (members self) (members other) }
     {
