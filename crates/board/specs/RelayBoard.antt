@@ -1,7 +1,7 @@
 -- What a board means over what the chest below means, and when it is settled. Assumes nothing.
 use Rattle.std.specs.Prelude.{◌≡◌}
 use Rattle.chest.specs.Meaning.{Meaning}
-use Rattle.board.specs.declared.board.RelayBoard.{RelayBoard}
+use Rattle.board.specs.declared.relay_board.RelayBoard.{RelayBoard}
 use Rattle.board.specs.Wires.{image}
 use Rattle.board.specs.Layout.{Layout, layout}
 

@@ -2,11 +2,11 @@
 #![tactic(auto)]
 
 mod below;
-pub mod board;
 pub mod fault;
 pub mod laws;
 mod lead;
 mod outlets;
+pub mod relay_board;
 mod swing;
 mod turn;
 mod waiting;

@@ -1,7 +1,7 @@
 //! Stacks of boards over a magnet chest, and lists of steps to play on them.
 #![tactic(auto)]
 
-use board::board::RelayBoard;
+use board::relay_board::RelayBoard;
 use board::fault::BoardFault;
 use bottom::magnet_chest::MagnetChest;
 use bottom::midi_chest::MidiChest;

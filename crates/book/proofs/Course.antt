@@ -4,7 +4,7 @@ use Rattle.std.specs.List.{prefix_len}
 use Rattle.std.proofs.lemmas.List.{length-append}
 use Rattle.std.proofs.lemmas.Bool.{cond-true, cond-false, cases_Bool, le-ltb}
 use Rattle.book.specs.declared.book_fault.BookFault.{BookFault}
-use Rattle.book.specs.declared.record.Book.{Book}
+use Rattle.book.specs.declared.book.Book.{Book}
 use Rattle.book.specs.Bytes.{line_end, inside, first_outside}
 use Rattle.book.specs.Entry.{Entry, Holds}
 use Rattle.book.specs.Limits.{most_bytes}

@@ -6,7 +6,7 @@ use Rattle.std.proofs.lemmas.Bool.{cond-true, cond-false, cases_Bool, ltb-true, 
 use Rattle.book.specs.declared.book_fault.BookFault.{BookFault}
 use Rattle.book.specs.declared.book_fault.BookFault.TheVariants as fault
 use Rattle.book.specs.declared.form.Form.{Form}
-use Rattle.book.specs.declared.record.Book.{Book}
+use Rattle.book.specs.declared.book.Book.{Book}
 use Rattle.book.specs.Entry.{Entry, Holds}
 use Rattle.book.specs.Grammar.{head_in, numbers_in, form_text, Lines, text_of, entries_from, entries_of, Fits, FitAfter, Good, Refused, Rejects, Judged, SaidBy, Accepts}
 use Rattle.book.specs.Head.{spelling}

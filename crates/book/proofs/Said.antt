@@ -3,8 +3,8 @@ use Rattle.std.proofs.Common.{◌≡◌, ℕ, ◌<◌, true, cond, not, ◌&&◌
 use Rattle.std.proofs.lemmas.List.{append-nil, append_assoc}
 use Rattle.std.proofs.lemmas.Bool.{cond-true, cond-false, cases_eq, eq-eqb, ne_eqb, true≢false}
 use Rattle.book.specs.declared.form.Form.{Form}
-use Rattle.book.specs.declared.record.BookWire.{BookWire}
-use Rattle.book.specs.declared.record.Book.{Book}
+use Rattle.book.specs.declared.book.BookWire.{BookWire}
+use Rattle.book.specs.declared.book.Book.{Book}
 use Rattle.book.specs.Entry.{Entry, first_said, said, wire_of, wires_of, Holds, keys_of, pipes_of, knob_of, scope_of}
 use Rattle.book.specs.Limits.{rows, knobs, pistons}
 use Rattle.book.specs.declared.tables.Taken.{Taken}

@@ -3,8 +3,8 @@ use Rattle.std.specs.Prelude.{ℕ, Bool, true, false, cond, List, None, Option, 
 use Rattle.std.specs.Option.{unwrap_or}
 use Rattle.book.specs.declared.board.Board.{Board}
 use Rattle.book.specs.declared.board.Board.TheVariants.{Coupler, Stop}
-use Rattle.book.specs.declared.record.Book.{Book}
-use Rattle.book.specs.declared.record.BookWire.{BookWire}
+use Rattle.book.specs.declared.book.Book.{Book}
+use Rattle.book.specs.declared.book.BookWire.{BookWire}
 use Rattle.book.specs.Limits.{rows, knobs, pistons}
 use Rattle.fittings.specs.Tables.{place_at}
 use Rattle.fittings.specs.declared.Knob.{Knob}

@@ -2,8 +2,8 @@
 use Rattle.std.specs.Prelude.{◌≡◌, ℕ, ◌<◌, ◌≤◌, Bool, cond, List, [], ◌∷◌, ◌++◌, length, is_some, Some, None, Option, ◌==◌, nat_le}
 use Rattle.book.specs.declared.form.Form.{Form}
 use Rattle.book.specs.declared.form.Form.TheVariants as form
-use Rattle.book.specs.declared.record.Book.{Book}
-use Rattle.book.specs.declared.record.BookWire.{BookWire}
+use Rattle.book.specs.declared.book.Book.{Book}
+use Rattle.book.specs.declared.book.BookWire.{BookWire}
 use Rattle.book.specs.Limits.{rows, most_places, knobs, pistons, most_wires, Sound, Ordered}
 use Rattle.fittings.specs.Tables.{place_at}
 use Rattle.fittings.specs.declared.Knob.{Knob}

@@ -4,7 +4,7 @@ use Rattle.book.specs.declared.book_fault.BookFault.{BookFault}
 use Rattle.book.specs.declared.book_fault.BookFault.TheVariants as fault
 use Rattle.book.specs.declared.form.Form.{Form}
 use Rattle.book.specs.declared.head.Head.{Head}
-use Rattle.book.specs.declared.record.Book.{Book}
+use Rattle.book.specs.declared.book.Book.{Book}
 use Rattle.book.specs.Bytes.{allowed, first_outside, line_end}
 use Rattle.book.specs.Entry.{Entry, Holds, taken}
 use Rattle.book.specs.Form.{form_from}

@@ -2,6 +2,7 @@
 #![tactic(auto)]
 
 mod board;
+mod book;
 mod book_fault;
 mod classes;
 mod form;
@@ -10,14 +11,13 @@ mod limits;
 mod numerals;
 mod parts;
 mod passage;
-mod record;
 mod tables;
 mod token;
 mod unknown;
 
 pub use board::Board;
+pub use book::{Book, BookWire};
 pub use book_fault::BookFault;
 pub use fittings::{Knob, Scope, Wire};
 pub use limits::{KNOBS, MOST_BYTES, MOST_WIRES, PISTONS, ROWS};
-pub use record::{Book, BookWire};
 pub use unknown::Unknown;

@@ -9,12 +9,12 @@ ghost use Rattle.book.specs.Reading.{Fills, at_end, form_of, line_form};
 ghost use Rattle.book.specs.Shapes.{Kept};
 ghost use Rattle.book.specs.Token.{Lexes};
 
+use crate::book::Book;
 use crate::book_fault::BookFault;
 use crate::classes::{end_of_line, is_allowed};
 use crate::form::Form;
 use crate::head::Head;
 use crate::parts::{Parts, read_shape};
-use crate::record::Book;
 use crate::token::{Lexed, first_token};
 
 #[derive(Clone, Copy)]

@@ -3,7 +3,7 @@ use Rattle.std.specs.Prelude.{ℕ, cond, List, [], ◌∷◌, ℤ, pos, Some, No
 use Rattle.chest.specs.Meaning.{Meaning}
 use Rattle.book.specs.declared.board.Board.{Board}
 use Rattle.book.specs.declared.board.Board.TheVariants.{Coupler, Stop}
-use Rattle.book.specs.declared.record.BookWire.{BookWire}
+use Rattle.book.specs.declared.book.BookWire.{BookWire}
 use Rattle.fittings.specs.declared.Wire.{Wire}
 use Rattle.board.specs.declared.lead.Lead.{Lead}
 use Rattle.board.specs.Wires.{Reaches}

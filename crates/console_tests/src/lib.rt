@@ -1,7 +1,7 @@
 //! Runs of calls on a console, each with the answer that it must give.
 #![tactic(auto)]
 
-use board::board::RelayBoard;
+use board::relay_board::RelayBoard;
 use board::fault::BoardFault;
 use bottom::magnet_chest::MagnetChest;
 use bottom::midi_chest::MidiChest;

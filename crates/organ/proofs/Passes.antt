@@ -4,7 +4,7 @@ use Rattle.std.proofs.lemmas.Bool.Decides.{nat_tests}
 use Rattle.chest.specs.Meaning.{Meaning}
 use Rattle.book.specs.declared.board.Board.{Board}
 use Rattle.book.specs.declared.board.Board.TheVariants.{Coupler, Stop}
-use Rattle.book.specs.declared.record.BookWire.{BookWire}
+use Rattle.book.specs.declared.book.BookWire.{BookWire}
 use Rattle.book.specs.Book.{same_board}
 use Rattle.board.specs.declared.fault.BoardFault.{BoardFault}
 use Rattle.board.specs.Wires.{Reaches}

@@ -4,8 +4,8 @@ use Rattle.chest.specs.Places.{none}
 use Rattle.chest.specs.Meaning.{Meaning}
 use Rattle.book.specs.declared.board.Board.{Board}
 use Rattle.book.specs.declared.board.Board.TheVariants.{Coupler, Stop}
-use Rattle.book.specs.declared.record.BookWire.{BookWire}
-use Rattle.board.specs.declared.board.RelayBoard.{RelayBoard}
+use Rattle.book.specs.declared.book.BookWire.{BookWire}
+use Rattle.board.specs.declared.relay_board.RelayBoard.{RelayBoard}
 use Rattle.board.specs.declared.fault.BoardFault.{BoardFault}
 use Rattle.fittings.specs.declared.Wire.{Wire}
 use Rattle.board.specs.declared.lead.Lead.{Lead}

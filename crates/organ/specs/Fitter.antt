@@ -3,9 +3,9 @@ use Rattle.std.specs.Prelude.{◌≡◌, cond, List, [], ◌∷◌, ◌++◌, Ok
 use Rattle.chest.specs.Meaning.{Meaning}
 use Rattle.book.specs.declared.board.Board.{Board}
 use Rattle.book.specs.declared.board.Board.TheVariants.{Coupler, Stop}
-use Rattle.book.specs.declared.record.BookWire.{BookWire}
+use Rattle.book.specs.declared.book.BookWire.{BookWire}
 use Rattle.book.specs.Book.{on_board}
-use Rattle.board.specs.declared.board.RelayBoard.{RelayBoard}
+use Rattle.board.specs.declared.relay_board.RelayBoard.{RelayBoard}
 use Rattle.board.specs.declared.fault.BoardFault.{BoardFault}
 use Rattle.board.specs.declared.lead.Lead.{Lead}
 use Rattle.board.specs.Wires.{Reaches}

@@ -1,7 +1,7 @@
 -- The knobs and pistons of a book, by number. Assumes nothing.
 use Rattle.std.specs.Prelude.{ℕ, Option}
 use Rattle.std.specs.Option.{option_map, unwrap_or}
-use Rattle.book.specs.declared.record.Book.{Book}
+use Rattle.book.specs.declared.book.Book.{Book}
 use Rattle.book.specs.Book.{knob_in, scope_in}
 use Rattle.fittings.specs.declared.Scope.{Scope}
 

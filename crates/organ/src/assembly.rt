@@ -10,7 +10,7 @@ ghost use Rattle.organ.specs.Pass.{fit_run, earlier_of};
 
 use crate::refusal::Refusal;
 use crate::stack::Stack;
-use board::board::RelayBoard;
+use board::relay_board::RelayBoard;
 use book::{Board, Book, BookWire};
 use chest::chest::{Chest, ROWS};
 use std::array;

@@ -11,7 +11,7 @@ ghost use Rattle.board.specs.Making.{new_layout, new_meaning};
 ghost use Rattle.board.specs.Sending.{HandsOn};
 ghost use Rattle.console.specs.Sending.{Sends, StillTracks, Linked};
 
-use board::board::RelayBoard;
+use board::relay_board::RelayBoard;
 use bottom::magnet_chest::MagnetChest;
 use bottom::midi_chest::MidiChest;
 use chest::chest::ROWS;

@@ -10,7 +10,7 @@ use Rattle.console.specs.declared.console.Console.{Console}
 use Rattle.console.specs.Model.{Setup, Model}
 use Rattle.organ.specs.Answered.{Answered}
 use Rattle.organ.proofs.Answering.{answered_none, answered_more}
-use Rattle.recital.specs.declared.playing.Recital.{Recital}
+use Rattle.recital.specs.declared.recital.Recital.{Recital}
 use Rattle.recital.specs.Recital.{Response, Hears, GoesOn}
 
 feeds_none : (s : State) → Feeds s [] [] s

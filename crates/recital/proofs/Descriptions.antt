@@ -2,7 +2,7 @@
 use Rattle.std.proofs.Common.{◌≡◌, ℕ, ◌<◌, Bool, true, false, cond, ltb, List, None, unwrap_or, refl, ap, subst}
 use Rattle.std.specs.Option.{option_map}
 use Rattle.std.proofs.lemmas.Bool.{ltb-true}
-use Rattle.book.specs.declared.record.Book.{Book}
+use Rattle.book.specs.declared.book.Book.{Book}
 use Rattle.book.specs.Book.{keys_in, pipes_in, knob_in, scope_in}
 use Rattle.book.specs.Entry.{Entry, Holds, said, keys_of, pipes_of, knob_of, scope_of}
 use Rattle.book.specs.Limits.{rows, knobs, pistons}

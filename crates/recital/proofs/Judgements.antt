@@ -2,7 +2,7 @@
 use Rattle.std.proofs.Common.{◌≡◌, ℕ, cond, List, ◌++◌, is_ok, IfOk, IsErrAnd, Ok, Err, Result, sym, refl, ap, ◌∙◌, subst}
 use Rattle.chest.specs.Meaning.{Meaning}
 use Rattle.book.specs.declared.book_fault.BookFault.{BookFault}
-use Rattle.book.specs.declared.record.Book.{Book}
+use Rattle.book.specs.declared.book.Book.{Book}
 use Rattle.book.specs.Book.{keys_in}
 use Rattle.book.specs.Entry.{Entry}
 use Rattle.book.specs.Grammar.{Judged, entries_of}
@@ -14,7 +14,7 @@ use Rattle.organ.specs.Line.{line_bytes}
 use Rattle.organ.specs.Opening.{Opens, book_setup}
 use Rattle.recital.specs.Described.{setup_said, hung_said, stack_said, book_hung, book_stack}
 use Rattle.organ.specs.Refused.{fault_line, refusal_line}
-use Rattle.recital.specs.declared.playing.Recital.{Recital}
+use Rattle.recital.specs.declared.recital.Recital.{Recital}
 use Rattle.recital.specs.Recital.{MagnetStack}
 use Rattle.recital.specs.Performing.{Gives, IsBook, Performs, faulty, unwired, played, BeginsOn, ListingLaw}
 use Rattle.recital.specs.Listings.{book_listing}

@@ -7,11 +7,11 @@ use Rattle.midi.specs.declared.message.Message.{Message}
 use Rattle.midi.specs.Reading.{reading}
 use Rattle.midi.specs.State.{HasRead}
 use Rattle.book.specs.declared.book_fault.BookFault.{BookFault}
-use Rattle.book.specs.declared.record.Book.{Book}
+use Rattle.book.specs.declared.book.Book.{Book}
 use Rattle.book.specs.Book.{pipes_in}
 use Rattle.book.specs.Entry.{Entry as Written, Holds}
 use Rattle.book.specs.Reading.{Answers, read_of}
-use Rattle.board.specs.declared.board.RelayBoard.{RelayBoard}
+use Rattle.board.specs.declared.relay_board.RelayBoard.{RelayBoard}
 use Rattle.board.specs.RelayBoard.{meaning_of, Settled}
 use Rattle.console.specs.declared.call.Call.{Call}
 use Rattle.console.specs.Keys.{sounding}
@@ -25,7 +25,7 @@ use Rattle.organ.specs.Action.{action_of}
 use Rattle.organ.specs.Assembly.{Hung}
 use Rattle.organ.specs.Answered.{Outcome, silent, low, did, IsOf, AreOf, call_in, line_in, Answered}
 use Rattle.organ.specs.Opening.{Opens, OrganTracks, new_ranks}
-use Rattle.recital.specs.declared.playing.Recital.{Recital}
+use Rattle.recital.specs.declared.recital.Recital.{Recital}
 use Rattle.recital.specs.Described.{setup_said, hung_said, stack_said, book_hung}
 use Rattle.recital.specs.Listings.{action_after, model_after, action_line, message_lines, organ_listing, book_listing, listing_of}
 use Rattle.recital.specs.Recital.{GoesOn, CaughtUp, ListsOn}

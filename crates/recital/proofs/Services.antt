@@ -6,9 +6,9 @@ use Rattle.chest.specs.Meaning.{Meaning}
 use Rattle.midi.specs.declared.message.Message.{Message}
 use Rattle.midi.specs.Reading.{reading}
 use Rattle.midi.specs.State.{HasRead}
-use Rattle.book.specs.declared.record.Book.{Book}
+use Rattle.book.specs.declared.book.Book.{Book}
 use Rattle.book.specs.Book.{keys_in}
-use Rattle.board.specs.declared.board.RelayBoard.{RelayBoard}
+use Rattle.board.specs.declared.relay_board.RelayBoard.{RelayBoard}
 use Rattle.board.specs.RelayBoard.{meaning_of, Settled}
 use Rattle.console.specs.declared.call.Call.{Call}
 use Rattle.console.specs.Model.{Setup, Model, first, check, after}
@@ -23,7 +23,7 @@ use Rattle.organ.specs.Answered.{Outcome, silent, low, did, IsOf, AreOf, call_in
 use Rattle.organ.specs.Line.{line_bytes}
 use Rattle.organ.specs.Opening.{Opens, book_setup, organ_meaning}
 use Rattle.organ.specs.Responses.{line_of}
-use Rattle.recital.specs.declared.playing.Recital.{Recital}
+use Rattle.recital.specs.declared.recital.Recital.{Recital}
 use Rattle.recital.specs.Recital.{GoesOn}
 use Rattle.recital.specs.Performing.{Service, Gives}
 use Rattle.recital.specs.Listings.{model_answer, action_line, action_after, message_lines, organ_listing}

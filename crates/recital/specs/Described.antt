@@ -2,7 +2,7 @@
 use Rattle.std.specs.Prelude.{ℕ, cond, List, None, Option, Result, nat_lt}
 use Rattle.std.specs.Option.{option_map, unwrap_or}
 use Rattle.chest.specs.Meaning.{Meaning}
-use Rattle.book.specs.declared.record.Book.{Book}
+use Rattle.book.specs.declared.book.Book.{Book}
 use Rattle.fittings.specs.declared.Knob.{Knob}
 use Rattle.fittings.specs.declared.Scope.{Scope}
 use Rattle.book.specs.Book.{keys_in, pipes_in}

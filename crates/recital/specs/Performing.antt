@@ -15,7 +15,7 @@ use Rattle.organ.specs.Assembly.{Hung}
 use Rattle.organ.specs.Answered.{Outcome, AreOf, call_in, answer_in, line_in}
 use Rattle.organ.specs.Line.{line_bytes}
 use Rattle.organ.specs.Refused.{fault_line, refusal_line}
-use Rattle.recital.specs.declared.playing.Recital.{Recital}
+use Rattle.recital.specs.declared.recital.Recital.{Recital}
 use Rattle.recital.specs.Recital.{GoesOn, MagnetStack, magnet_stack_meaning, MagnetStackSettled}
 use Rattle.recital.specs.Described.{setup_said, hung_said, stack_said}
 use Rattle.recital.specs.Listings.{listing_of}

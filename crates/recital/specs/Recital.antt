@@ -5,11 +5,11 @@ use Rattle.chest.specs.Meaning.{Meaning}
 use Rattle.midi.specs.declared.message.Message.{Message}
 use Rattle.midi.specs.Reading.{reading}
 use Rattle.midi.specs.State.{HasRead, Feeds}
-use Rattle.book.specs.declared.record.Book.{Book}
+use Rattle.book.specs.declared.book.Book.{Book}
 use Rattle.book.specs.Book.{pipes_in}
 use Rattle.book.specs.Entry.{Entry}
 use Rattle.book.specs.Reading.{read_of}
-use Rattle.board.specs.declared.board.RelayBoard.{RelayBoard}
+use Rattle.board.specs.declared.relay_board.RelayBoard.{RelayBoard}
 use Rattle.board.specs.RelayBoard.{meaning_of, Settled}
 use Rattle.bottom.specs.declared.magnet_chest.MagnetChest.{MagnetChest}
 use Rattle.bottom.specs.MagnetChest.{magnet_meaning, MagnetSettled}
@@ -22,7 +22,7 @@ use Rattle.organ.specs.Assembly.{Hung}
 use Rattle.organ.specs.Responses.{Responds}
 use Rattle.organ.specs.Answered.{Answered}
 use Rattle.organ.specs.Opening.{Opens, new_ranks}
-use Rattle.recital.specs.declared.playing.Recital.{Recital}
+use Rattle.recital.specs.declared.recital.Recital.{Recital}
 use Rattle.recital.specs.Described.{setup_said, hung_said, stack_said, book_hung}
 use Rattle.recital.specs.Listings.{model_after, listing_of}
 

@@ -3,8 +3,8 @@
 
 mod laws;
 mod performing;
-mod playing;
+mod recital;
 
 pub use laws::listing_law;
 pub use performing::perform;
-pub use playing::{MagnetRecital, Recital};
+pub use recital::{MagnetRecital, Recital};

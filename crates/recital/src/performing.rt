@@ -4,7 +4,7 @@ ghost use Rattle.recital.specs.Listings.{listing_of};
 ghost use Rattle.recital.specs.Performing.{Performed};
 ghost use Rattle.organ.specs.Line.{HasRoom};
 
-use crate::playing::MagnetRecital;
+use crate::recital::MagnetRecital;
 use std::alloc::AllocError;
 
 /// Reads a book's text, plays its organ from the bytes of a MIDI line, and adds to the listing what each call came to;
