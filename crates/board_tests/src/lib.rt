@@ -1,8 +1,8 @@
 //! Stacks of boards over a magnet chest, and lists of steps to play on them.
 #![tactic(auto)]
 
-use board::relay_board::RelayBoard;
 use board::fault::BoardFault;
+use board::relay_board::RelayBoard;
 use bottom::magnet_chest::MagnetChest;
 use bottom::midi_chest::MidiChest;
 use chest::chest::Chest;

@@ -1,8 +1,8 @@
 //! Runs of calls on a console, each with the answer that it must give.
 #![tactic(auto)]
 
-use board::relay_board::RelayBoard;
 use board::fault::BoardFault;
+use board::relay_board::RelayBoard;
 use bottom::magnet_chest::MagnetChest;
 use bottom::midi_chest::MidiChest;
 use chest::chest::Chest;
