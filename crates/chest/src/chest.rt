@@ -1,9 +1,10 @@
 //! The trait of a chest: what it means, the laws that it keeps, and its five calls.
-ghost use Rattle.std.specs.Prelude.{◌≡◌, ℕ, Bool, OnErr};
+ghost use Rattle.std.specs.Prelude.{◌≡◌, ℕ, Bool, false, is_ok, OnErr};
 ghost use Rattle.chest.specs.Places.{none, changed};
 ghost use Rattle.chest.specs.Meaning.{Meaning, Panel, Bounded, Becomes, reach_answer, position_answer, set_answer, set_after, turn_answer, turn_after, strobe_after};
 
 use crate::fault::ChestFault;
+use crate::place::Place;
 pub use fittings::{KNOBS, PLACES, POSITIONS, ROWS};
 
 /// A chest stands by its meaning, a record of six parts, and each call says what it answers and what it makes of them.
@@ -26,6 +27,14 @@ pub trait Chest {
         ensures answer { result ≡ set_answer (meaning self.old) row place }
         ensures same { OnErr result (self.new ≡ self.old) }
         ensures after { Becomes meaning settled self.old self.new (set_after (meaning self.old) row place on) };
+
+    /// Puts a place on or off, if the chest has it: for who has a `Place` at hand and need not be told why there is none.
+    fn put(&mut self, at: Place, on: bool)
+        ensures same { is_ok (set_answer (meaning self.old) at.row at.place) ≡ false → self.new ≡ self.old }
+        ensures after { Becomes meaning settled self.old self.new (set_after (meaning self.old) at.row at.place on) }
+    {
+        let _ = self.set(at.row, at.place, on);
+    }
 
     /// Turns one knob of the panel to a position.
     fn turn(&mut self, knob: usize, position: usize) -> Result<(), ChestFault>

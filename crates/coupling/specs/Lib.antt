@@ -1,0 +1,6 @@
+pub mod Some
+pub mod Layout
+pub mod KeyDesk
+pub mod Board
+pub mod Making
+pub mod Sending

@@ -1,0 +1,2 @@
+//! What a wire means.
+#![tactic(auto)]
