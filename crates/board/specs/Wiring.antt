@@ -32,20 +32,6 @@ panel h = positions_of h.positions
 abbrev pub wires : Wiring → List Lead
 wires h = h.leads.items
 
--- the place below to which a wire leads from a key of a row, by row and place, if it is live and leads from there
-abbrev pub outlet : Reaches → Panel → Lead → ℕ → ℕ → Option (ℕ × ℕ)
-outlet reach panel w row key =
-    cond (live panel w && (row == w.from && (nat_le w.lowest key && nat_le key w.highest))) (option_map (λ q. (w.to, q)) (landing w.raise (reach w.to) key)) None
-
--- a place by its row and number
-abbrev pub spot : Place → ℕ × ℕ
-spot at = (at.row, at.place)
-
--- whether that is place q of row b
-abbrev pub meets : Option (ℕ × ℕ) → ℕ → ℕ → Bool
-meets None b q = false
-meets (Some t) b q = b == t.0 && q == t.1
-
 -- what becomes of a wire where a knob goes from one position to another: it starts to be live, or stops, or neither
 abbrev pub swing_of : Option Wait → ℕ → ℕ → ℕ → Option Swing
 swing_of None knob from to = None

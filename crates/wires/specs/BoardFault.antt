@@ -1,7 +1,7 @@
 -- The number of each fault of a board. Assumes nothing.
 use Rattle.std.specs.Prelude.{ℕ}
-use Rattle.board.specs.declared.fault.BoardFault.{BoardFault}
-use Rattle.board.specs.declared.fault.BoardFault.TheVariants.{Held, Full, Keys, ToRow, NoPlaces, Shift, Knob, Position}
+use Rattle.wires.specs.declared.fault.BoardFault.{BoardFault}
+use Rattle.wires.specs.declared.fault.BoardFault.TheVariants.{Held, Full, Keys, ToRow, NoPlaces, Shift, Knob, Position}
 
 abbrev pub number_of : BoardFault → ℕ
 number_of Held = 15

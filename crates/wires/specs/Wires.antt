@@ -1,13 +1,13 @@
 -- Where wires lead, the image of a register, and the number of ways to a place below. Assumes nothing.
 use Rattle.std.specs.Prelude.{ℕ, zero, suc, ◌+◌, ◌-◌, Bool, true, false, cond, ◌&&◌, ◌||◌, List, [], ◌∷◌, Some, None, sum_by, Option, ◌==◌, nat_le, nat_lt}
+use Rattle.std.specs.Option.{option_map}
 use Rattle.chest.specs.Places.{Places, total}
 use Rattle.chest.specs.Meaning.{Panel}
-use Rattle.board.specs.declared.lead.Lead.{Lead}
-use Rattle.board.specs.declared.lead.Wait.{Wait}
-
--- how many places each row has
-abbrev pub Reaches : Type 0
-Reaches = ℕ → ℕ
+use Rattle.chest.specs.declared.place.Place.{Place}
+use Rattle.coupling.specs.Some.{some}
+use Rattle.coupling.specs.Layout.{Reaches}
+use Rattle.wires.specs.declared.lead.Lead.{Lead}
+use Rattle.wires.specs.declared.lead.Wait.{Wait}
 
 -- a wire is live while its knob stands at its position, and always where it has no knob
 abbrev pub stands : Panel → Option Wait → Bool
@@ -35,11 +35,7 @@ leads reach w b q key =
 abbrev pub way : Reaches → Places → Lead → ℕ → ℕ → ℕ → Bool
 way reach s w b q key = s w.from key && leads reach w b q key
 
--- whether some number below n passes, and whether some wire does
-unfoldable pub some : ℕ → (ℕ → Bool) → Bool
-some zero f = false
-some (suc n) f = some n f || f n
-
+-- whether some wire passes
 unfoldable pub some_wire : (Lead → Bool) → List Lead → Bool
 some_wire f [] = false
 some_wire f (w ∷ ws) = f w || some_wire f ws
@@ -58,3 +54,17 @@ through reach panel s b q w = cond (live panel w) (span reach s b q w) 0
 
 abbrev pub ways_to : Reaches → List Lead → Panel → Places → ℕ → ℕ → ℕ
 ways_to reach ws panel s b q = sum_by (through reach panel s b q) ws
+
+-- the place below to which a wire leads from a key of a row, by row and place, if it is live and leads from there
+abbrev pub outlet : Reaches → Panel → Lead → ℕ → ℕ → Option (ℕ × ℕ)
+outlet reach panel w row key =
+    cond (live panel w && (row == w.from && (nat_le w.lowest key && nat_le key w.highest))) (option_map (λ q. (w.to, q)) (landing w.raise (reach w.to) key)) None
+
+-- a place by its row and number
+abbrev pub spot : Place → ℕ × ℕ
+spot at = (at.row, at.place)
+
+-- whether that is place q of row b
+abbrev pub meets : Option (ℕ × ℕ) → ℕ → ℕ → Bool
+meets None b q = false
+meets (Some t) b q = b == t.0 && q == t.1

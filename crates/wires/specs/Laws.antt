@@ -4,9 +4,10 @@ use Rattle.std.specs.List.{HoldsAt}
 use Rattle.chest.specs.Places.{Places, none}
 use Rattle.chest.specs.Meaning.{Panel}
 use Rattle.fittings.specs.declared.Wire.{Wire}
-use Rattle.board.specs.declared.lead.Lead.{Lead}
-use Rattle.board.specs.Wires.{Reaches, image, ways_to}
-use Rattle.board.specs.Fitting.{in_range, lead_of}
+use Rattle.wires.specs.declared.lead.Lead.{Lead}
+use Rattle.coupling.specs.Layout.{Reaches}
+use Rattle.wires.specs.Wires.{image, ways_to}
+use Rattle.wires.specs.Fitting.{in_range, lead_of}
 
 -- the signed shift of a wire
 abbrev pub shift_of : Lead → ℤ

@@ -6,14 +6,17 @@ use Rattle.std.proofs.lemmas.Bool.{and_parts, and_from, or_cases, leb-true, le-l
 use Rattle.std.proofs.lemmas.Bool.Decides.{nat_tests, Decides-by_or}
 use Rattle.chest.specs.Places.{Places, none}
 use Rattle.chest.specs.Meaning.{Panel}
-use Rattle.board.specs.declared.lead.Lead.{Lead}
-use Rattle.board.specs.declared.lead.Wait.{Wait}
-use Rattle.board.specs.Wires.{Reaches, live, stands, landing, is_at, leads, way, some, some_wire, image, through}
-use Rattle.board.specs.Fitting.{in_range, raised}
-use Rattle.board.specs.Laws.{Reached, either, ImageLaw}
-use Rattle.board.proofs.Sums.{some-found, sum-le}
-use Rattle.board.proofs.Ways.{landing_is, through-one}
-use Rattle.board.proofs.Images.{image-ways, image-free}
+use Rattle.wires.specs.declared.lead.Lead.{Lead}
+use Rattle.wires.specs.declared.lead.Wait.{Wait}
+use Rattle.coupling.specs.Some.{some}
+use Rattle.coupling.specs.Layout.{Reaches}
+use Rattle.coupling.proofs.Some.{some-found}
+use Rattle.wires.specs.Wires.{live, stands, landing, is_at, leads, way, some_wire, image, through}
+use Rattle.wires.specs.Fitting.{in_range, raised}
+use Rattle.wires.specs.Laws.{Reached, either, ImageLaw}
+use Rattle.wires.proofs.Sums.{sum-le}
+use Rattle.wires.proofs.Ways.{landing_is, through-one}
+use Rattle.wires.proofs.Images.{image-ways, image-free}
 
 -- a number that passes
 some-tells : (n : ℕ) (f : ℕ → Bool) → some n f ≡ true → (k : ℕ) × (k < n) × (f k ≡ true)

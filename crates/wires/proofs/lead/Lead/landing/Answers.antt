@@ -1,7 +1,7 @@
 use Rattle.std.proofs.Common.{arith, of_calls}
 use Rattle.std.proofs.lemmas.Bool.Decides.{nat_tests}
-use Rattle.board.specs.Wires.{landing}
-use Rattle.board.proofs.lead.Lead.landing.Goals as goal
+use Rattle.wires.specs.Wires.{landing}
+use Rattle.wires.proofs.lead.Lead.landing.Goals as goal
 
 pub returns-in_err-raised-clause-place : goal.returns-in_err-raised-clause-place
 unfolding landing

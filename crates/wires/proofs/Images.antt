@@ -6,10 +6,12 @@ use Rattle.std.proofs.lemmas.Bool.Decides.{nat_tests}
 use Rattle.chest.specs.Places.{Places, none}
 use Rattle.chest.specs.Meaning.{Panel}
 use Rattle.chest.proofs.Totals.{total-zero}
-use Rattle.board.specs.declared.lead.Lead.{Lead}
-use Rattle.board.specs.Wires.{Reaches, live, way, some, some_wire, image, span, through, ways_to}
-use Rattle.board.specs.Quiet.{image_of_free}
-use Rattle.board.proofs.Sums.{some-total}
+use Rattle.wires.specs.declared.lead.Lead.{Lead}
+use Rattle.coupling.specs.Some.{some}
+use Rattle.coupling.specs.Layout.{Reaches}
+use Rattle.wires.specs.Wires.{live, way, some_wire, image, span, through, ways_to}
+use Rattle.wires.specs.Quiet.{image_of_free}
+use Rattle.wires.proofs.Sums.{some-total}
 
 either-above : (x y : Bool) (m n : ℕ) → x ≡ nat_lt 0 m → y ≡ nat_lt 0 n → (x || y) ≡ nat_lt 0 (m + n)
 either-above x y m n e f = grind (arith, nat_tests)

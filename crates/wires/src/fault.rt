@@ -1,7 +1,7 @@
 //! The faults of a board that refuses a wire.
 ghost use Rattle.std.specs.Prelude.{◌≡◌};
-ghost use Rattle.board.specs.BoardFault.{number_of};
-ghost use Rattle.board.specs.declared.fault.BoardFault.TheVariants.{ToRow};
+ghost use Rattle.wires.specs.BoardFault.{number_of};
+ghost use Rattle.wires.specs.declared.fault.BoardFault.TheVariants.{ToRow};
 
 use chest::fault::ChestFault;
 

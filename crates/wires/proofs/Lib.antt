@@ -1,0 +1,5 @@
+pub mod Sums
+pub mod Ways
+pub mod Images
+pub mod Shown
+pub mod Fits

@@ -1,0 +1,6 @@
+pub mod BoardFault
+pub mod Wires
+pub mod Wired
+pub mod Fitting
+pub mod Laws
+pub mod Quiet
