@@ -4,7 +4,7 @@ use Rattle.std.proofs.lemmas.List.{get_or-map}
 use Rattle.std.proofs.lemmas.Bool.{cases_lt, false≢true}
 use Rattle.std.proofs.lemmas.Bool.Decides.{nat_tests}
 use Rattle.sets.specs.Numbers.{Numbers, PopsFirst}
-use Rattle.board.specs.declared.lead.Lead.{Lead}
+use Rattle.wires.specs.declared.lead.Lead.{Lead}
 use Rattle.board.specs.Among.{among, blank}
 
 pub among_at : (f : Lead → Bool) (ws : List Lead) (i : ℕ) (d : Lead) → i < length ws → among f ws i ≡ f (get_or ws i d)

@@ -1,23 +1,25 @@
 -- The steps of the walks that count ways. Assumes nothing.
 use Rattle.std.proofs.Common.{◌≡◌, ℕ, ◌+◌, ◌<◌, ◌≤◌, Bool, true, false, cond, not, ◌&&◌, eqb, ◌≢◌, List, length, get_or, Some, None, Option, is_some, nat_le, ⊎_elim, sym, refl, ap, ◌∙◌, arith}
-use Rattle.std.proofs.lemmas.Bool.{false≢true, cases_Bool}
+use Rattle.std.proofs.lemmas.Bool.{false≢true}
 use Rattle.std.proofs.lemmas.Bool.Decides.{nat_tests}
 use Rattle.chest.specs.Places.{total, put}
 use Rattle.chest.specs.Meaning.{knob_to}
 use Rattle.chest.proofs.Totals.{total-zero}
-use Rattle.board.specs.declared.lead.Lead.{Lead}
+use Rattle.wires.specs.declared.lead.Lead.{Lead}
 use Rattle.board.specs.declared.wiring.Wiring.{Wiring}
 use Rattle.board.specs.declared.swing.Swing.{Swing}
-use Rattle.board.specs.Swing.{starts}
-use Rattle.board.specs.Wires.{landing, is_at, leads, span, through}
-use Rattle.board.specs.Wiring.{beneath, register, panel, wires, outlet, meets, swing, swing_of}
+use Rattle.board.specs.Swing.{starts, swing, swing_of}
+use Rattle.wires.specs.Wires.{landing, is_at, leads, span, through, outlet, meets}
+use Rattle.board.specs.Wiring.{beneath, register, panel, wires}
 use Rattle.board.specs.Counts.{at_place, Fits, Moves, Room}
+use Rattle.coupling.proofs.Desks.{no_key_past}
 use Rattle.board.proofs.Sums.{mixed, mixed_more, mixed-le, left_more}
 use Rattle.sets.specs.Numbers.{Numbers, nothing, PopsFirst}
 use Rattle.board.specs.Among.{blank, waits, waits_for}
-use Rattle.board.specs.declared.lead.Wait.{Wait}
+use Rattle.wires.specs.declared.lead.Wait.{Wait}
 use Rattle.board.specs.declared.swing.Swing.TheVariants.{Starts, Stops}
-use Rattle.board.proofs.Ways.{Swung, through-one, through-put, through-swing, span-keys, leads-is}
+use Rattle.board.proofs.Swings.{Swung, through-swing}
+use Rattle.wires.proofs.Ways.{through-one, through-put, span-keys, leads-is}
 
 by_hit : (x y was on : Bool) (new old n m : ℕ) → was ≡ not on → x ≡ y → new + cond (x && was) 1 0 ≡ old + cond (x && on) 1 0 → m + old ≡ n + new → m + cond on 0 (cond y 1 0) ≡ n + cond on (cond y 1 0) 0
 by_hit x y was on new old n m other same one more = grind (arith, nat_tests)
@@ -102,10 +104,7 @@ module _ (h : Wiring) where
         (b q : ℕ) → b < 16 → q < 128 → (at_place now b q + cond up (terms rest b q) (span (beneath h) (register h) b q w) ≡ at_place before b q + cond up (span (beneath h) (register h) b q w) (terms rest b q)) × (terms rest b q ≤ span (beneath h) (register h) b q w)
 
     span_is : (b q : ℕ) → span (beneath h) (register h) b q w ≡ terms (register h w.from) b q
-    span_is b q = span-keys (beneath h) (register h) b q w (λ k l. past k l)
-      where
-        past : (k : ℕ) → 128 ≤ k → register h w.from k ≡ false
-        past k l = ⊎_elim (λ (is : register h w.from k ≡ true). absurd (let in_reach = h.held w.from k is in let low = h.reaches.low w.from in grind (arith, nat_tests))) (λ (no : register h w.from k ≡ false). no) (cases_Bool (register h w.from k))
+    span_is b q = span-keys (beneath h) (register h) b q w (no_key_past h.desk w.from)
 
     pub wire_start : (table : List ℕ) (rest : Numbers) → rest ≡ register h w.from → Left table table rest
     wire_start table rest is b q hb hq =

@@ -1,10 +1,6 @@
 pub mod Sums
-pub mod Ways
-pub mod Counting
-pub mod Images
-pub mod Standing
-pub mod Boards
-pub mod Fits
-pub mod Shown
+pub mod Swings
 pub mod Among
+pub mod Counting
 pub mod Indexes
+pub mod Standing

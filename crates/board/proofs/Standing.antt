@@ -4,16 +4,17 @@ use Rattle.std.proofs.lemmas.Bool.Decides.{nat_tests}
 use Rattle.chest.specs.Places.{Places, put}
 use Rattle.chest.specs.Meaning.{Meaning, Panel, with_register, set_after}
 use Rattle.chest.proofs.Calls.{set-done}
-use Rattle.chest.specs.declared.reaches.Reaches.{Reaches as Kept}
-use Rattle.chest.specs.Reaches.{reaches_of}
-use Rattle.board.specs.declared.below.Below.{Below}
-use Rattle.board.specs.declared.lead.Lead.{Lead}
-use Rattle.board.specs.Wires.{Reaches, way, ways_to}
-use Rattle.board.specs.Layout.{Layout, image_of}
+use Rattle.coupling.specs.declared.key_desk.KeyDesk.{KeyDesk}
+use Rattle.coupling.specs.KeyDesk.{beneath}
+use Rattle.coupling.proofs.Desks.{beneath_most, beneath_row}
+use Rattle.wires.specs.declared.lead.Lead.{Lead}
+use Rattle.coupling.specs.Layout.{Reaches, Plays}
+use Rattle.wires.specs.Wires.{way, ways_to, image}
+use Rattle.wires.specs.Wired.{Wired, layout_of, image_of}
 use Rattle.board.specs.Counts.{at_place, Exact, Moves, one_at}
-use Rattle.board.specs.Below.{standing, Keeps}
-use Rattle.board.proofs.Ways.{landing_is}
-use Rattle.board.proofs.Images.{image-ways, ways_none}
+use Rattle.board.specs.Ways.{standing, Keeps}
+use Rattle.wires.proofs.Ways.{landing_is}
+use Rattle.wires.proofs.Images.{image-ways, ways_none}
 
 -- a place put as its number says, where no other number changed
 pub standing-put : (up : Bool) (before after : List ℕ) (r p : ℕ) (on : Bool) → r < 16 → p < 128 → Moves up before after (one_at r p) → on ≡ nat_lt 0 (at_place after r p) → put (standing before) r p on ≡ standing after
@@ -27,32 +28,27 @@ standing-put up before after r p on hr hp moves is = λ i b q. one b q (nat_lt b
   one b q false y e f = grind (arith, nat_tests)
 
 module _ {C : Type 0} {meaning : C → Meaning} {settled : C → Type 0} {reach : Reaches} where
-  pub keeps_same : (a : Below C) → Keeps meaning settled reach a a
-  keeps_same a = record { stands = λ s r is. (s, ap (with_register (meaning a.chest)) is) }
+  pub keeps_same : (ways : List ℕ) (a : C) → Keeps meaning settled reach ways a ways a
+  keeps_same ways a = record { stands = λ r is s. (s, ap (with_register (meaning a)) is) }
 
-  pub keeps_more : {a b c : Below C} → Keeps meaning settled reach a b → Keeps meaning settled reach b c → Keeps meaning settled reach a c
-  keeps_more {a} {b} {c} x y =
+  pub keeps_more : {x y z : List ℕ} {a b c : C} → Keeps meaning settled reach x a y b → Keeps meaning settled reach y b z c → Keeps meaning settled reach x a z c
+  keeps_more {x} {y} {z} {a} {b} {c} k l =
       record {
-        stands = λ s r is.
-            let one = x.stands s r is in
-            let two = y.stands one.0 (ap (λ m. m.reach) one.1 ∙ r) (ap (λ m. m.register) one.1) in
-            (two.0, two.1 ∙ ap (λ m. with_register m (standing c.ways)) one.1);
+        stands = λ r is s.
+            let one = k.stands r is s in
+            let two = l.stands (ap (λ m. m.reach) one.1 ∙ r) (ap (λ m. m.register) one.1) one.0 in
+            (two.0, two.1 ∙ ap (λ m. with_register m (standing z)) one.1);
       }
 
-  module _ (up : Bool) (a b : Below C) (r p : ℕ) (on : Bool) (hr : r < 16) (hp : p < 128) (low : p < reach r) (moves : Moves up a.ways b.ways (one_at r p)) (same : b.chest ≡ a.chest) (is : on ≡ nat_lt 0 (at_place b.ways r p)) where
-    -- the place is put below as its number says
-    pub keeps-put : (c : Below C) → c.ways ≡ b.ways → (settled b.chest → settled c.chest × (meaning c.chest ≡ set_after (meaning b.chest) r p on)) → Keeps meaning settled reach a c
-    keeps-put c ways set =
-        record {
-          stands = λ s reaches register.
-              let done = set (subst settled (sym same) s) in
-              let there : p < (meaning b.chest).reach r = subst (λ f. p < f r) (sym (ap (λ x. (meaning x).reach) same ∙ reaches)) low in (
-                done.0,
-                done.1 ∙ set-done (meaning b.chest) r p on hr there ∙ ap (λ x. with_register (meaning x) (put (meaning x).register r p on)) same
-                    ∙ ap (λ t. with_register (meaning a.chest) (put t r p on)) register
-                    ∙ ap (with_register (meaning a.chest)) (standing-put up a.ways b.ways r p on hr hp moves is ∙ ap standing (sym ways)),
-              );
-        }
+  -- the place is put below as its number says
+  pub keeps-put : (up : Bool) (x y : List ℕ) (a b : C) (r p : ℕ) (on : Bool) → r < 16 → p < 128 → p < reach r → Moves up x y (one_at r p) → on ≡ nat_lt 0 (at_place y r p) → (settled a → settled b × (meaning b ≡ set_after (meaning a) r p on)) → Keeps meaning settled reach x a y b
+  keeps-put up x y a b r p on hr hp low moves is set =
+      record {
+        stands = λ reaches register s.
+            let done = set s in
+            let there : p < (meaning a).reach r = subst (λ f. p < f r) (sym reaches) low in
+            (done.0, done.1 ∙ set-done (meaning a) r p on hr there ∙ ap (λ t. with_register (meaning a) (put t r p on)) register ∙ ap (with_register (meaning a)) (standing-put up x y r p on hr hp moves is));
+      }
 
 -- no way leads past the reach of a row
 ways-past : (reach : Reaches) (ws : List Lead) (panel : Panel) (s : Places) (b q : ℕ) → reach b ≤ q → ways_to reach ws panel s b q ≡ 0
@@ -64,9 +60,9 @@ ways-past reach ws panel s b q past = ways_none reach ws panel s b q none where
       grind (arith, nat_tests)
 
 -- exact numbers stand as the image
-pub standing-image : (ways : List ℕ) (t : Kept) (l : Layout) → l.below ≡ reaches_of t → Exact ways l → standing ways ≡ image_of l
-standing-image ways t l knows exact = λ i b q. one b q (nat_lt b 16) (nat_lt q 128) refl refl i where
-  reach : (b : ℕ) → l.below b ≡ reaches_of t b
+pub standing-image : (ways : List ℕ) (d : KeyDesk) (l : Wired) → l.below ≡ beneath d → Exact ways l → standing ways ≡ image_of l
+standing-image ways d l knows exact = λ i b q. one b q (nat_lt b 16) (nat_lt q 128) refl refl i where
+  reach : (b : ℕ) → l.below b ≡ beneath d b
   reach b = ap (λ f. f b) knows
 
   is : (b q : ℕ) → image_of l b q ≡ nat_lt 0 (ways_to l.below l.wires l.panel l.register b q)
@@ -78,7 +74,8 @@ standing-image ways t l knows exact = λ i b q. one b q (nat_lt b 16) (nat_lt q 
       let image = is b q in
       grind (arith, nat_tests)
   one b q true false e f =
-      let most = t.low b in
+      let most = beneath_most d b in
+      let row = beneath_row d b q in
       let none = ways-past l.below l.wires l.panel l.register b q (grind (arith, nat_tests, reach b)) in
       let image = is b q in
       grind (arith, nat_tests)
@@ -86,3 +83,15 @@ standing-image ways t l knows exact = λ i b q. one b q (nat_lt b 16) (nat_lt q 
       let none = ways-past l.below l.wires l.panel l.register b q (grind (arith, nat_tests, reach b)) in
       let image = is b q in
       grind (arith, nat_tests)
+
+-- where each number was exact, and is, the chest below stands as the relay wants
+pub counted : {C : Type 0} (meaning : C → Meaning) (settled : C → Type 0) (d : KeyDesk) (w v v' : Wired) (x y : List ℕ) (a b : C) → w.below ≡ beneath d → v.below ≡ w.below → v' ≡ v → Exact x w → Exact y v → Keeps meaning settled w.below x a y b → Plays meaning settled (layout_of w) (layout_of v') a b
+counted meaning settled d w v v' x y a b knows below same was is keeps =
+    record {
+      stands = λ st s.
+          let m = meaning a in
+          let stood = st.register ∙ (λ i. image (st.reach i) w.wires (st.panel i) w.register) ∙ sym (standing-image x d w knows was) in
+          let done = keeps.stands st.reach stood s in
+          let shown = standing-image y d v (below ∙ knows) is ∙ ap (λ f. image f v.wires v.panel v.register) (below ∙ sym st.reach) ∙ ap (λ u. image m.reach u.wires u.panel u.register) (sym same) in
+          (done.0, done.1 ∙ ap (with_register m) shown);
+    }

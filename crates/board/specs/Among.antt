@@ -1,9 +1,10 @@
 -- Which wires of a list do something, by their numbers in it. Assumes nothing.
 use Rattle.std.specs.Prelude.{ℕ, Bool, false, ◌&&◌, List, map, Some, None, Option, is_some, ◌==◌, nat_le, slice_index_or}
 use Rattle.sets.specs.Numbers.{Numbers}
-use Rattle.board.specs.declared.lead.Lead.{Lead}
-use Rattle.board.specs.declared.lead.Wait.{Wait}
-use Rattle.board.specs.Wires.{Reaches, landing}
+use Rattle.wires.specs.declared.lead.Lead.{Lead}
+use Rattle.wires.specs.declared.lead.Wait.{Wait}
+use Rattle.coupling.specs.Layout.{Reaches}
+use Rattle.wires.specs.Wires.{landing}
 
 -- the numbers of the wires of which something is true
 abbrev pub among : (Lead → Bool) → List Lead → Numbers

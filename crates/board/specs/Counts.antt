@@ -1,14 +1,14 @@
 -- The table of the numbers of ways. Assumes nothing.
 use Rattle.std.specs.Prelude.{◌≡◌, ℕ, ◌+◌, ◌*◌, ◌<◌, ◌≤◌, Bool, cond, ◌&&◌, List, ◌==◌, slice_index}
-use Rattle.board.specs.Layout.{Layout, ways_of}
+use Rattle.wires.specs.Wired.{Wired, ways_of}
 
 -- the number that stands for place q of row b
 abbrev pub at_place : List ℕ → ℕ → ℕ → ℕ
 at_place table b q = slice_index table (128 * b + q)
 
 -- each number is the number of ways that lead there
-abbrev pub Exact : List ℕ → Layout → Type 0
-Exact table l = (b q : ℕ) → (b < 16) × (q < 128) → at_place table b q ≡ ways_of l b q
+abbrev pub Exact : List ℕ → Wired → Type 0
+Exact table w = (b q : ℕ) → (b < 16) × (q < 128) → at_place table b q ≡ ways_of w b q
 
 -- from one table to the other each number has gone up, or down, by so much
 abbrev pub Moves : Bool → List ℕ → List ℕ → (ℕ → ℕ → ℕ) → Type 0

@@ -1,13 +1,11 @@
-//! The relay board: a chest over any chest below, which it plays through its wires.
+//! The relay: a coupling that plays the chest below through wires, and counts the ways to each place.
 #![tactic(auto)]
 
-mod below;
-pub mod fault;
-pub mod laws;
-mod lead;
+pub mod fitting;
 mod outlets;
-pub mod relay_board;
+pub mod relay;
 mod swing;
 mod turn;
 mod waiting;
+mod ways;
 mod wiring;

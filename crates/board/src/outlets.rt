@@ -5,11 +5,11 @@ ghost use Rattle.sets.specs.NumberSet.{members};
 ghost use Rattle.chest.specs.Reaches.{reaches_of};
 ghost use Rattle.board.specs.Among.{leads_from, lands, waits};
 
-use crate::lead::Lead;
 use chest::chest::{PLACES, ROWS};
 use chest::place::Place;
 use chest::reaches::Reaches;
 use sets::NumberSet;
+use wires::lead::Lead;
 
 // The numbers of the wires by the row that they lead from, and by the keys that land somewhere through them. Two small tables
 // and not one of all rows and keys: a wire leads from one row alone.

@@ -5,9 +5,9 @@ ghost use Rattle.sets.specs.NumberSet.{members};
 ghost use Rattle.chest.specs.Reaches.{reaches_of};
 ghost use Rattle.board.specs.Among.{leads_from, lands, waits};
 
-use crate::lead::Lead;
 use chest::chest::KNOBS;
 use sets::NumberSet;
+use wires::lead::Lead;
 
 // By knob, the numbers of the wires that wait for it.
 #[derive(Clone, Copy)]

@@ -1,18 +1,50 @@
 -- A board over a chest: after its coupling has played it is settled again. Assumes nothing.
-use Rattle.std.specs.Prelude.{◌≡◌, ℕ, Bool, true, false, cond, not, List, nat_lt, ◌==◌, refl}
+use Rattle.std.specs.Prelude.{◌≡◌, ℕ, Bool, true, false, cond, not, ◌&&◌, List, nat_lt, ◌==◌, refl}
+use Rattle.std.specs.Bool.{beq}
 use Rattle.std.proofs.Common.{get_or, sym, ap, subst, ◌<◌, ◌∙◌, arith}
-use Rattle.std.proofs.lemmas.Bool.{lt-ltb}
+use Rattle.std.proofs.lemmas.Bool.{lt-ltb, ltb-true, and_parts, false≢true}
 use Rattle.std.proofs.lemmas.Bool.Decides.{nat_tests}
-use Rattle.chest.specs.Places.{none, put}
+use Rattle.chest.specs.Places.{none, put, differ}
 use Rattle.chest.specs.Meaning.{Meaning, Panel, Bounded, with_register, with_panel, knob_to}
 use Rattle.chest.specs.Positions.{panel_of}
-use Rattle.coupling.specs.Layout.{Reaches, Image, Layout, Stands, with_key, with_knob, with_image, key_put}
+use Rattle.chest.proofs.Calls.{put-still}
+use Rattle.coupling.specs.Layout.{Reaches, Image, Layout, Stands, with_key, with_knob, with_image, key_put, key_moves, Plays}
 use Rattle.coupling.specs.Board.{board_meaning}
 use Rattle.coupling.specs.Making.{new_over, new_meaning}
+
+undiffer : (x y : Bool) → differ x y ≡ false → beq x y ≡ true
+undiffer true true e = refl
+undiffer true false e = absurd (false≢true (sym e))
+undiffer false true e = absurd (false≢true (sym e))
+undiffer false false e = refl
 
 -- a key that there is
 pub put-there : (l : Layout) (row key : ℕ) (on : Bool) → key < l.reach row → key_put l row key on ≡ with_key l row key on
 put-there l row key on low = ap (λ c. cond c (with_key l row key on) l) (lt-ltb key (l.reach row) low)
+
+-- one that moves is there, and stood the other way
+pub key_there : (l : Layout) (row key : ℕ) (on : Bool) → key_moves l row key on ≡ true → (key < l.reach row) × (l.register row key ≡ not on)
+key_there l row key on moves =
+    let parts = and_parts (nat_lt key (l.reach row)) (differ (l.register row key) on) moves in
+    (ltb-true key (l.reach row) parts.0, other (l.register row key) on parts.1)
+  where
+    other : (x y : Bool) → differ x y ≡ true → x ≡ not y
+    other true true e = sym e
+    other true false e = refl
+    other false true e = refl
+    other false false e = e
+
+-- one that does not move
+pub put-unmoved : (l : Layout) (row key : ℕ) (on : Bool) → key_moves l row key on ≡ false → key_put l row key on ≡ l
+put-unmoved l row key on still = by (nat_lt key (l.reach row)) (l.register row key) refl still where
+  by : (there was : Bool) → l.register row key ≡ was → (there && differ was on) ≡ false → cond there (with_key l row key on) l ≡ l
+  by true was e h = λ i. record { reach = l.reach; below = l.below; panel = l.panel; register = sym (put-still l.register row key on was (sym e) (undiffer was on h)) i; image = l.image }
+  by false was e h = refl
+
+-- a coupling that changes nothing has the chest below stand as it wants
+pub plays_still : {C : Type 0} (meaning : C → Meaning) (settled : C → Type 0) (l : Layout) (a : C) → Plays meaning settled l l a a
+plays_still meaning settled l a =
+    record { stands = λ st s. (s, ap (with_register (meaning a)) (st.register ∙ ap (λ f. l.image (meaning a).reach f l.register) st.panel)) }
 
 module _ (l : Layout) (m : Meaning) (st : Stands l m) where
   -- a key is put, and below stands what is then wanted

@@ -1,3 +1,4 @@
 pub mod Some
 pub mod Tables
 pub mod Boards
+pub mod Desks

@@ -3,7 +3,8 @@ use Rattle.std.proofs.Common.{◌<◌, ◌&&◌, true, cond, eqb, get_or, sym, a
 use Rattle.sets.specs.NumberSet.{members, empty}
 use Rattle.board.specs.Among.{leads_from}
 use Rattle.board.specs.Outlets.{row_of}
-use Rattle.board.proofs.Indexes.{table_put, either_way}
+use Rattle.coupling.proofs.Tables.{table_put}
+use Rattle.board.proofs.Indexes.{either_way}
 use Rattle.board.proofs.outlets.Outlets.add.Goals as goal
 
 pub returns-then-row-lt-ROWS-clause-rows : goal.returns-then-row-lt-ROWS-clause-rows

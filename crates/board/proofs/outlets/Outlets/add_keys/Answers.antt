@@ -3,7 +3,8 @@ use Rattle.std.proofs.Common.{◌≡◌, ◌<◌, true, is_some, sym, ap, ◌∙
 use Rattle.chest.specs.Reaches.{reaches_of}
 use Rattle.board.specs.Among.{lands}
 use Rattle.board.specs.Outlets.{key_of}
-use Rattle.board.proofs.Indexes.{table_put, lands_is, is_some_map, by_key, by_no_key}
+use Rattle.coupling.proofs.Tables.{table_put}
+use Rattle.board.proofs.Indexes.{lands_is, is_some_map, by_key, by_no_key}
 use Rattle.board.proofs.outlets.Outlets.add_keys.Goals as goal
 use Rattle.board.proofs.outlets.Outlets.add_keys.Goals.{then-is_some, else-is_some}
 

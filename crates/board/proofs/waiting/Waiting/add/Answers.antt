@@ -3,7 +3,8 @@ use Rattle.std.proofs.Common.{◌≡◌, ◌<◌, ℕ, true, eqb, sym, ap, ◌�
 use Rattle.std.proofs.lemmas.Bool.Decides.{nat_tests}
 use Rattle.board.specs.Among.{waits, waits_for}
 use Rattle.board.specs.Waiting.{waiting_of}
-use Rattle.board.proofs.Indexes.{table_put, either_way}
+use Rattle.coupling.proofs.Tables.{table_put}
+use Rattle.board.proofs.Indexes.{either_way}
 use Rattle.board.proofs.waiting.Waiting.add.Goals as goal
 
 pub returns-then-knob-lt-KNOBS : goal.returns-then-knob-lt-KNOBS

@@ -3,10 +3,11 @@ use Rattle.std.proofs.Common.{◌≡◌, ◌<◌, ◌≤◌, ℕ, Bool, true, fa
 use Rattle.std.proofs.lemmas.Bool.{eqb-true}
 use Rattle.std.proofs.lemmas.List.{length-append}
 use Rattle.chest.specs.Positions.{positions_of}
+use Rattle.chest.specs.Reaches.{reaches_of}
 use Rattle.sets.specs.Numbers.{Numbers, with_number}
-use Rattle.board.specs.declared.lead.Lead.{Lead}
-use Rattle.board.specs.Wires.{live}
-use Rattle.board.specs.Wiring.{wires, beneath}
+use Rattle.wires.specs.declared.lead.Lead.{Lead}
+use Rattle.wires.specs.Wires.{live}
+use Rattle.board.specs.Wiring.{wires, beneath, panel}
 use Rattle.board.specs.Among.{among, leads_from, lands, waits}
 use Rattle.board.specs.Outlets.{row_of, key_of}
 use Rattle.board.specs.Waiting.{waiting_of}
@@ -41,11 +42,9 @@ invariant_of-self c =
     let last = c.len-number.ensures.value in
     let is_last : number < 128 = omega (arith, last, c.requires) in
     record {
-      manual = h.manual;
-      held = h.held;
       few = subst (λ ws. length ws ≤ 128) (sym items) (omega (arith, length-append (wires h) (w ∷ []), c.requires));
-      alive = c.with-self.ensures.value is_last ∙ (λ j. with_number (h.alive j) (last j) (c.is_live.ensures j)) ∙ (λ j i. sym (among_push (live (positions_of h.positions)) (wires h) w i) j) ∙ sym (ap (among (live (positions_of h.positions))) items);
+      alive = c.with-self.ensures.value is_last ∙ (λ j. with_number (h.alive j) (last j) ((c.is_live.ensures ∙ ap (λ t. live (positions_of t) w) c.positions.ensures) j)) ∙ (λ j i. sym (among_push (live (panel h)) (wires h) w i) j) ∙ sym (ap (among (live (panel h))) items);
       leading = λ r hr. joins (leads_from r) (wires h) w (row_of h.outlets r) (row_of c.add.new.self r) number last (h.leading r hr) (λ i. c.add.ensures.rows r i hr) ∙ sym (ap (among (leads_from r)) items);
-      landing = λ p hp. joins (lands (beneath h) p) (wires h) w (key_of h.outlets p) (key_of c.add.new.self p) number last (h.landing p hp) (λ i. c.add.ensures.keys p i hp) ∙ sym (ap (among (lands (beneath h) p)) items);
+      landing = λ p hp. joins (lands (beneath h) p) (wires h) w (key_of h.outlets p) (key_of c.add.new.self p) number last (h.landing p hp) (λ i. c.add.ensures.keys p i hp ∙ ap (λ t. cond (eqb i number && lands (reaches_of t) p w) true (key_of h.outlets p i)) c.below.ensures) ∙ sym (ap (among (lands (beneath h) p)) items);
       waits = λ k hk. joins (waits k) (wires h) w (waiting_of h.waiting k) (waiting_of c.add-2.new.self k) number last (h.waits k hk) (λ i. c.add-2.ensures k i hk) ∙ sym (ap (among (waits k)) items);
     }

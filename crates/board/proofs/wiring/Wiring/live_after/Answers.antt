@@ -5,10 +5,10 @@ use Rattle.std.proofs.lemmas.Bool.Decides.{nat_tests}
 use Rattle.chest.specs.Meaning.{Panel, knob_to}
 use Rattle.chest.specs.Positions.{positions_of}
 use Rattle.sets.specs.Numbers.{Numbers, with_number, PopsFirst}
-use Rattle.board.specs.declared.lead.Lead.{Lead}
+use Rattle.wires.specs.declared.lead.Lead.{Lead}
 use Rattle.board.proofs.Indexes.{live_same}
 use Rattle.sets.specs.NumberSet.{members, remaining}
-use Rattle.board.specs.Wires.{live}
+use Rattle.wires.specs.Wires.{live}
 use Rattle.board.specs.Wiring.{panel, wires}
 use Rattle.board.specs.Waiting.{waiting_of}
 use Rattle.board.specs.Among.{among, waits, blank}
@@ -53,10 +53,11 @@ loop-number-init c =
     let h = c.args.self.now in
     let to = c.args.to in
     let s = remaining c.rest-rest.result in
+    let turned = c.turn.ensures ∙ ap (λ t. knob_to (positions_of t) to.knob to.position) c.positions.ensures in
     let is = c.rest-rest.ensures ∙ c.of.ensures ∙ ap (waiting_of h.waiting) c.knob.ensures.value ∙ h.waits to.knob to.knob_in in (
       λ i left. sym (ap (λ x. x i) is) ∙ left,
-      λ i. ap (λ x. x i) h.alive ∙ start (panel h) to.knob to.position (wires h) s is (positions_of c.turn.new.self) c.turn.ensures i,
-      c.turn.ensures,
+      λ i. ap (λ x. x i) h.alive ∙ start (panel h) to.knob to.position (wires h) s is (positions_of c.turn.new.self) turned i,
+      turned,
     )
 
 pub lead-requires : goal.lead-requires

@@ -3,7 +3,7 @@ use Rattle.std.proofs.Common.{◌≡◌, ℕ, true, cond}
 use Rattle.chest.specs.Meaning.{knob_to}
 use Rattle.chest.specs.Positions.{positions_of}
 use Rattle.sets.specs.NumberSet.{members, remaining}
-use Rattle.board.specs.Wires.{live}
+use Rattle.wires.specs.Wires.{live}
 use Rattle.board.specs.Wiring.{panel, wires}
 use Rattle.board.specs.Among.{among, waits}
 use Rattle.board.proofs.Sums.{left}

@@ -1,5 +1,5 @@
 use Rattle.std.proofs.Common.{Some, ◌+◌, ◌-◌, sym, ◌∙◌, arith}
-use Rattle.std.proofs.lemmas.Bool.Decides.{nat_tests}
+use Rattle.coupling.proofs.Desks.{beneath_most, beneath_row}
 use Rattle.board.specs.Wiring.{beneath, panel}
 use Rattle.board.proofs.Indexes.{outlet_some}
 use Rattle.board.proofs.wiring.Wiring.outlet.Goals as goal
@@ -15,10 +15,11 @@ invariant_of-result c =
     let h = c.args.self.now in
     let w = c.args.w in
     let some = outlet_some (beneath h) (panel h) w c.args.key.row c.args.key.place c.requires in
-    let low = h.below.low w.to in
+    let most = beneath_most h.desk w.to in
+    let row = beneath_row h.desk w.to _ some.1 in
     record {
-      row_in = grind (arith, nat_tests, some.1, c.from.ensures);
-      place_in = grind (arith, nat_tests, some.1, c.from-2.ensures, c.from-3.ensures);
+      row_in = omega (arith, row, c.from.ensures);
+      place_in = omega (arith, most, some.1, c.from-2.ensures, c.from-3.ensures);
     }
 
 pub returns : goal.returns

@@ -1,45 +1,24 @@
--- One place of one row is put.
-use Rattle.std.proofs.Common.{◌≡◌, ◌<◌, ℕ, Bool, true, false, cond, ◌&&◌, eqb, get_or, set, sym, ap, ◌∙◌, ⊎_elim, subst}
-use Rattle.std.proofs.lemmas.Bool.{cases_Bool, eqb-true, and_parts}
-use Rattle.std.proofs.lemmas.List.{length-set}
-use Rattle.chest.specs.Reaches.{reaches_of}
-use Rattle.chest.specs.Places.{put}
-use Rattle.sets.specs.declared.number_set.NumberSet.{NumberSet}
-use Rattle.sets.specs.Numbers.{with_number}
-use Rattle.sets.specs.NumberSet.{members, empty}
-use Rattle.board.specs.declared.wiring.Wiring.{Wiring}
-use Rattle.board.specs.Layout.{layout}
-use Rattle.board.specs.Wiring.{register}
-use Rattle.board.proofs.Indexes.{table_put}
+-- One key of the desk is put, and the wires stay.
+use Rattle.std.proofs.Common.{◌≡◌, sym, ap, ◌∙◌}
+use Rattle.coupling.specs.Layout.{with_key}
+use Rattle.coupling.specs.KeyDesk.{layout_of}
+use Rattle.coupling.proofs.Boards.{put-there}
+use Rattle.wires.specs.Wires.{live}
+use Rattle.wires.specs.Wired.{image_with}
+use Rattle.board.specs.Wiring.{wires}
+use Rattle.board.specs.Among.{among, lands}
 use Rattle.board.proofs.wiring.Wiring.put.Goals as goal
-
--- the rows after the place is put
-rows : (h : Wiring) (row place : ℕ) (on : Bool) (new d : NumberSet) → row < 16 → members new ≡ with_number (members (get_or h.keys row d)) place on → (r p : ℕ) → members (get_or (set h.keys row new) r empty) p ≡ put (register h) row place on r p
-rows h row place on new d within is r p =
-    table_put h.keys row r place on new d (subst (λ n. row < n) (sym h.manual) within) is p
-
--- all are below the reach
-below : (h : Wiring) (row place : ℕ) (on : Bool) → place < reaches_of h.reaches row → (r p : ℕ) → put (register h) row place on r p ≡ true → p < reaches_of h.reaches r
-below h row place on low r p is =
-    ⊎_elim
-    (λ (e : (eqb r row && eqb p place) ≡ true).
-    let here : r ≡ row = eqb-true r row (and_parts (eqb r row) (eqb p place) e).0 in
-    let same : p ≡ place = eqb-true p place (and_parts (eqb r row) (eqb p place) e).1 in
-    subst (λ x. p < reaches_of h.reaches x) (sym here) (subst (λ x. x < reaches_of h.reaches row) (sym same) low))
-    (λ (e : (eqb r row && eqb p place) ≡ false). h.held r p (sym (ap (λ x. cond x on (register h r p)) e) ∙ is))
-    (cases_Bool (eqb r row && eqb p place))
 
 pub invariant_of-self : goal.invariant_of-self
 invariant_of-self c =
     let h = c.args.self.now in
     let at = c.args.at in
+    let own = c.put.ensures (image_with (wires h)) ∙ put-there (layout_of h.desk (image_with (wires h))) at.row at.place c.args.on c.requires in
     record {
-      manual = length-set h.keys at.row c.with.result ∙ h.manual;
-      held = λ r p is. below h at.row at.place c.args.on c.requires r p (sym (rows h at.row at.place c.args.on c.with.result c.index-self-at.result at.row_in (c.with.ensures.value at.place_in) r p) ∙ is);
       few = h.few;
-      alive = h.alive;
+      alive = h.alive ∙ sym (ap (λ l. among (live l.panel) (wires h)) own);
       leading = h.leading;
-      landing = h.landing;
+      landing = λ p hp. h.landing p hp ∙ sym (ap (λ l. among (lands l.below p) (wires h)) own);
       waits = h.waits;
     }
 
@@ -47,4 +26,5 @@ pub returns : goal.returns
 returns c =
     let h = c.args.self.now in
     let at = c.args.at in
-    λ i. record { reach = (layout h).reach; below = (layout h).below; wires = (layout h).wires; panel = (layout h).panel; register = λ r p. rows h at.row at.place c.args.on c.with.result c.index-self-at.result at.row_in (c.with.ensures.value at.place_in) r p i }
+    let own : layout_of c.put.new.self (image_with (wires h)) ≡ with_key (layout_of h.desk (image_with (wires h))) at.row at.place c.args.on = c.put.ensures (image_with (wires h)) ∙ put-there (layout_of h.desk (image_with (wires h))) at.row at.place c.args.on c.requires in
+    λ i. record { reach = (own i).reach; below = (own i).below; wires = wires h; panel = (own i).panel; register = (own i).register }

@@ -1,7 +1,7 @@
 -- The wires that lead somewhere from the key and are live.
 use Rattle.std.proofs.Common.{◌&&◌, ◌∙◌}
 use Rattle.sets.specs.Numbers.{both}
-use Rattle.board.specs.Wires.{live}
+use Rattle.wires.specs.Wires.{live}
 use Rattle.board.specs.Wiring.{beneath, panel, wires}
 use Rattle.board.specs.Among.{among, leads_from, lands}
 use Rattle.board.proofs.Among.{among_both}

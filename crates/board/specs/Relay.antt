@@ -1,0 +1,29 @@
+-- What a relay is as a coupling, and a board of it as a chest. Assumes nothing.
+use Rattle.chest.specs.Meaning.{Meaning}
+use Rattle.coupling.specs.declared.board.Board.{Board}
+use Rattle.coupling.specs.Layout.{Layout, Sound}
+use Rattle.coupling.specs.KeyDesk.{desk_sound}
+use Rattle.coupling.specs.Board as board
+use Rattle.wires.specs.Wired.{Wired, image_with, layout_of}
+use Rattle.wires.specs.Quiet.{wires_silent}
+use Rattle.board.specs.declared.relay.Relay.{Relay}
+use Rattle.board.specs.Wiring.{wired, wires}
+
+-- its wires, reaches, keys and positions
+abbrev pub wired_of : Relay → Wired
+wired_of r = wired r.wiring
+
+-- what it wants below is the image of its wires
+abbrev pub relay_layout : Relay → Layout
+relay_layout r = layout_of (wired_of r)
+
+pub relay_sound : (r : Relay) → Sound (relay_layout r)
+relay_sound r = desk_sound r.wiring.desk (image_with (wires r.wiring)) (wires_silent (wires r.wiring))
+
+-- what a board of it means, and when that is settled
+module _ {C : Type 0} (meaning : C → Meaning) where
+  abbrev pub meaning_of : Board Relay C → Meaning
+  meaning_of = board.meaning_of relay_layout meaning
+
+  abbrev pub Settled : (C → Type 0) → Board Relay C → Type 0
+  Settled = board.Settled relay_layout meaning
