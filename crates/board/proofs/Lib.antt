@@ -4,3 +4,4 @@ pub mod Among
 pub mod Counting
 pub mod Indexes
 pub mod Standing
+pub mod Made

@@ -20,10 +20,13 @@ relay_layout r = layout_of (wired_of r)
 pub relay_sound : (r : Relay) → Sound (relay_layout r)
 relay_sound r = desk_sound r.wiring.desk (image_with (wires r.wiring)) (wires_silent (wires r.wiring))
 
--- what a board of it means, and when that is settled
+-- a board of it over any chest, what that means, and when it is settled
+abbrev pub RelayBoard : Type 0 → Type 0
+RelayBoard C = Board Relay C
+
 module _ {C : Type 0} (meaning : C → Meaning) where
-  abbrev pub meaning_of : Board Relay C → Meaning
+  abbrev pub meaning_of : RelayBoard C → Meaning
   meaning_of = board.meaning_of relay_layout meaning
 
-  abbrev pub Settled : (C → Type 0) → Board Relay C → Type 0
+  abbrev pub Settled : (C → Type 0) → RelayBoard C → Type 0
   Settled = board.Settled relay_layout meaning

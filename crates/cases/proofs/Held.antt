@@ -6,13 +6,13 @@ use Rattle.std.proofs.lemmas.List.Sums.{sum_by-cons}
 use Rattle.std.proofs.lemmas.Bool.Decides.{nat_tests}
 use Rattle.chest.specs.Places.{Places, none, put}
 use Rattle.chest.specs.Meaning.{Panel}
-use Rattle.board.specs.declared.lead.Lead.{Lead}
-use Rattle.board.specs.Wires.{Reaches, image, through, ways_to}
-use Rattle.board.specs.Wiring.{outlet, meets}
-use Rattle.board.specs.Laws.{either}
-use Rattle.board.proofs.Images.{image-ways, ways_free}
-use Rattle.board.proofs.Ways.{through-put}
-use Rattle.board.proofs.Shown.{image-law}
+use Rattle.wires.specs.declared.lead.Lead.{Lead}
+use Rattle.coupling.specs.Layout.{Reaches}
+use Rattle.wires.specs.Wires.{image, through, ways_to, outlet, meets}
+use Rattle.wires.specs.Laws.{either}
+use Rattle.wires.proofs.Images.{image-ways, ways_free}
+use Rattle.wires.proofs.Ways.{through-put}
+use Rattle.wires.proofs.Shown.{image-law}
 
 -- just these places
 abbrev pub held : List (ℕ × ℕ) → Places

@@ -2,7 +2,7 @@
 use Rattle.std.proofs.Common.{◌≡◌, ℕ, List, [], ap, ◌∙◌}
 use Rattle.chest.specs.Places.{none}
 use Rattle.chest.specs.Meaning.{Panel}
-use Rattle.board.specs.Wires.{image}
+use Rattle.wires.specs.Wires.{image}
 use Rattle.console.specs.declared.call.Call.{Call}
 use Rattle.console.specs.Keys.{sounding}
 use Rattle.console.specs.Model.{Model, first}

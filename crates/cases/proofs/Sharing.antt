@@ -2,7 +2,7 @@
 use Rattle.std.proofs.Common.{◌≡◌, ℕ, true, false, [], ◌∷◌, ◌++◌, Ok, sym, refl, ap, ◌∙◌, arith}
 use Rattle.std.proofs.lemmas.Bool.Decides.{nat_tests}
 use Rattle.chest.specs.Places.{none, put, total, changed}
-use Rattle.board.specs.Wires.{landing}
+use Rattle.wires.specs.Wires.{landing}
 use Rattle.console.specs.declared.call.Call.TheVariants.{Press, Lift, Turn}
 use Rattle.cases.specs.Organ.{stack, setup}
 use Rattle.cases.specs.Playing.{AnswersSo}

@@ -2,7 +2,7 @@
 use Rattle.std.proofs.Common.{◌≡◌, ℕ, true, [], ◌∷◌, ◌++◌, Ok, refl, ◌∙◌, arith}
 use Rattle.std.proofs.lemmas.Bool.Decides.{nat_tests}
 use Rattle.chest.specs.Places.{Places, none, put, total, changed}
-use Rattle.board.specs.Wires.{landing}
+use Rattle.wires.specs.Wires.{landing}
 use Rattle.chest.specs.Meaning.{Meaning}
 use Rattle.chest.proofs.Counts.{changed-same}
 use Rattle.console.specs.declared.call.Call.TheVariants.{Press, Sustain, Turn}

@@ -2,7 +2,7 @@
 use Rattle.std.proofs.Common.{◌≡◌, true, [], ◌∷◌, ◌++◌, Ok, refl, arith}
 use Rattle.std.proofs.lemmas.Bool.Decides.{nat_tests}
 use Rattle.chest.specs.Places.{none, put, total, changed}
-use Rattle.board.specs.Wires.{landing}
+use Rattle.wires.specs.Wires.{landing}
 use Rattle.console.specs.declared.call.Call.TheVariants.{Turn, Capture, Recall}
 use Rattle.cases.specs.Organ.{stack, setup}
 use Rattle.cases.specs.Playing.{AnswersSo}

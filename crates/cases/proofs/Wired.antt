@@ -2,10 +2,11 @@
 use Rattle.std.proofs.Common.{◌≡◌, true, cond, [], ◌∷◌, ℤ, pos, negsuc, Ok, Err, refl, ap}
 use Rattle.chest.specs.Places.{none, put}
 use Rattle.chest.specs.Meaning.{Panel}
-use Rattle.board.specs.declared.fault.BoardFault.TheVariants.{Shift}
-use Rattle.board.specs.Wires.{image, some, landing}
-use Rattle.board.specs.Fitting.{in_range, fit_answer, lead_of}
-use Rattle.organ.specs.Assembly.{hang_all, stop_layout}
+use Rattle.wires.specs.declared.fault.BoardFault.TheVariants.{Shift}
+use Rattle.wires.specs.Wires.{image, landing}
+use Rattle.coupling.specs.Some.{some}
+use Rattle.wires.specs.Fitting.{in_range, fit_answer, lead_of}
+use Rattle.organ.specs.Assembly.{hang_all, stop_wired}
 use Rattle.organ.specs.Opening.{new_ranks}
 use Rattle.cases.specs.Organ.{keys, ranks, shifted_by, wires, hung}
 use Rattle.cases.proofs.Held.{image-held}
@@ -30,6 +31,6 @@ pub assembled : hang_all keys (new_ranks ranks) wires ≡ Ok hung
 unfolding some
 assembled = refl
 
-pub taken : (shift : ℤ) → in_range shift ≡ true → fit_answer (stop_layout keys (new_ranks ranks) []) (new_ranks ranks) (shifted_by shift) ≡ Ok tt
+pub taken : (shift : ℤ) → in_range shift ≡ true → fit_answer (stop_wired keys (new_ranks ranks) []) (new_ranks ranks) (shifted_by shift) ≡ Ok tt
 unfolding some
 taken shift e = ap (λ b. cond b (Ok tt) (Err (Shift 0 0))) e

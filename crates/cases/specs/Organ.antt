@@ -5,9 +5,9 @@ use Rattle.book.specs.declared.board.Board.{Board}
 use Rattle.book.specs.declared.board.Board.TheVariants.{Coupler, Stop}
 use Rattle.book.specs.declared.book.BookWire.{BookWire}
 use Rattle.fittings.specs.declared.Wire.{Wire}
-use Rattle.board.specs.declared.lead.Lead.{Lead}
-use Rattle.board.specs.Wires.{Reaches}
-use Rattle.board.specs.Fitting.{lead_of}
+use Rattle.wires.specs.declared.lead.Lead.{Lead}
+use Rattle.coupling.specs.Layout.{Reaches}
+use Rattle.wires.specs.Fitting.{lead_of}
 use Rattle.console.specs.Model.{Setup}
 use Rattle.organ.specs.Assembly.{Hung, stack_meaning}
 use Rattle.organ.specs.Opening.{new_ranks}

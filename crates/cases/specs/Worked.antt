@@ -5,8 +5,8 @@ use Rattle.chest.specs.Meaning.{Meaning, Panel}
 use Rattle.midi.specs.declared.message.Message.TheVariants.{NoteOn}
 use Rattle.midi.specs.Reading.{reading, ReadsAs}
 use Rattle.bottom.specs.Drain.{count_of_places, holds, pending, spelled, drained}
-use Rattle.board.specs.Wires.{image}
-use Rattle.board.specs.Fitting.{in_range, fit_answer, lead_of}
+use Rattle.wires.specs.Wires.{image}
+use Rattle.wires.specs.Fitting.{in_range, fit_answer, lead_of}
 use Rattle.console.specs.declared.call.Call.{Call}
 use Rattle.console.specs.declared.call.Call.TheVariants.{Press, Lift, Sustain, Turn, Capture, Recall}
 use Rattle.console.specs.declared.fault.PlayFault.TheVariants.{Division, Key}
@@ -16,7 +16,7 @@ use Rattle.console.specs.Model.{Setup, Model, first, check, after}
 use Rattle.console.specs.Record.{pipes_of}
 use Rattle.organ.specs.declared.action.Action.TheVariants.{Perform}
 use Rattle.organ.specs.Action.{action_of}
-use Rattle.organ.specs.Assembly.{hang_all, stop_layout}
+use Rattle.organ.specs.Assembly.{hang_all, stop_wired}
 use Rattle.organ.specs.Opening.{new_ranks}
 use Rattle.cases.specs.Organ.{keys, ranks, shifted_by, wires, hung, stack, setup}
 use Rattle.cases.specs.Playing.{after_all, AnswersSo}
@@ -52,7 +52,7 @@ pub record WorkedCases : Type 0 where
   -- division 16 with key 200 is fault 1, since the division is looked at first, and nothing changes
   pub no_division : (s : Setup) (p : Model) → (check s p (Press 16 200) ≡ Err (Division 16)) × (number_of (Division 16) ≡ 1) × (after s p (Press 16 200) ≡ p)
   -- a stop board of 61 keys over a rank of 73 pipes takes a wire from all its keys with any shift from -96 to 96
-  pub taken : (shift : ℤ) → in_range shift ≡ true → fit_answer (stop_layout keys (new_ranks ranks) []) (new_ranks ranks) (shifted_by shift) ≡ Ok tt
+  pub taken : (shift : ℤ) → in_range shift ≡ true → fit_answer (stop_wired keys (new_ranks ranks) []) (new_ranks ranks) (shifted_by shift) ≡ Ok tt
   -- with shift 12 key 60 gives pipe 72, and only that
   pub twelve_up : (panel : Panel) → image ranks (lead_of (shifted_by (pos 12)) ∷ []) panel (put none 0 60 true) ≡ put none 0 72 true
   -- with shift 13 key 60 is silent

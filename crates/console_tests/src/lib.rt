@@ -1,8 +1,8 @@
 //! Runs of calls on a console, each with the answer that it must give.
 #![tactic(auto)]
 
-use board::fault::BoardFault;
-use board::relay_board::RelayBoard;
+use board::fitting::fit;
+use board::relay::RelayBoard;
 use bottom::magnet_chest::MagnetChest;
 use bottom::midi_chest::MidiChest;
 use chest::chest::Chest;
@@ -13,6 +13,7 @@ use console::fault::PlayFault;
 use console::knob_table::KnobTable;
 use console::piston_table::PistonTable;
 use fittings::{Knob, Scope, Wire};
+use wires::fault::BoardFault;
 
 // A call, and its answer: the number of pipes that change, or that of the fault.
 type Row = (Call, Result<u32, u8>);
@@ -26,7 +27,7 @@ fn first_wrong<C: Chest>(console: &mut Console<C>, run: &[Row]) -> Option<usize>
 // Fits each wire.
 fn fit_all<C: Chest>(board: &mut RelayBoard<C>, wires: &[Wire]) -> Result<(), BoardFault> {
     for wire in wires {
-        board.fit(*wire)?;
+        fit(board, *wire)?;
     }
     Ok(())
 }

@@ -6,15 +6,13 @@ use Rattle.book.specs.declared.board.Board.TheVariants.{Coupler, Stop}
 use Rattle.book.specs.declared.book.BookWire.{BookWire}
 use Rattle.book.specs.Book.{same_board, on_board}
 use Rattle.book.proofs.Clash.{ok_err, err_same}
-use Rattle.board.specs.declared.relay_board.RelayBoard.{RelayBoard}
-use Rattle.board.specs.declared.fault.BoardFault.{BoardFault}
-use Rattle.board.specs.declared.lead.Lead.{Lead}
-use Rattle.board.specs.Wires.{Reaches}
-use Rattle.board.specs.Layout.{layout}
-use Rattle.board.specs.RelayBoard.{meaning_of}
-use Rattle.board.specs.Fitting.{lead_of}
+use Rattle.board.specs.Relay.{RelayBoard, wired_of, meaning_of}
+use Rattle.wires.specs.declared.fault.BoardFault.{BoardFault}
+use Rattle.wires.specs.declared.lead.Lead.{Lead}
+use Rattle.coupling.specs.Layout.{Reaches}
+use Rattle.wires.specs.Fitting.{lead_of}
 use Rattle.organ.specs.declared.refusal.Refusal.{Refusal}
-use Rattle.organ.specs.Assembly.{unless_refused, hung_on, hang_after, hang_all, coupler_layout, stack_meaning, Assembles}
+use Rattle.organ.specs.Assembly.{unless_refused, hung_on, hang_after, hang_all, coupler_wired, stack_meaning, Assembles}
 use Rattle.organ.specs.Fitter.{just_its_own, each_its_own, answer_after, AllTaken, RefusedFor, FittedInOrder}
 
 -- a board's own wires of two lists
@@ -113,7 +111,7 @@ module _ (keys : Reaches) (m : Meaning) where
     with_one x e is one made =
         record {
           refused = λ r. (λ q. subst (RefusedFor keys m ws) (err_same e r (sym made ∙ q)) one, λ f. made ∙ ap Err (err_same e r (sym is ∙ hangs_so r f)));
-          taken = subst (λ y. IfOk y (λ stack. AllTaken keys m ws × (meaning_of (meaning_of meaning) stack ≡ stack_meaning keys m (each_its_own ws)) × (layout stack.wiring ≡ coupler_layout keys m (just_its_own Coupler ws)))) (sym made) tt;
+          taken = subst (λ y. IfOk y (λ stack. AllTaken keys m ws × (meaning_of (meaning_of meaning) stack ≡ stack_meaning keys m (each_its_own ws)) × (wired_of stack.coupling ≡ coupler_wired keys m (just_its_own Coupler ws)))) (sym made) tt;
         }
       where
         hangs_so : (r : Refusal) → RefusedFor keys m ws r → hang_all keys m ws ≡ Err r

@@ -3,8 +3,7 @@ use Rattle.std.proofs.Common.{◌≡◌, ℕ, Ok, Err, Result, subst}
 use Rattle.chest.specs.Meaning.{Meaning}
 use Rattle.book.specs.declared.book.Book.{Book}
 use Rattle.book.specs.Book.{keys_in}
-use Rattle.board.specs.declared.relay_board.RelayBoard.{RelayBoard}
-use Rattle.board.specs.RelayBoard.{meaning_of, Settled}
+use Rattle.board.specs.Relay.{RelayBoard, meaning_of, Settled}
 use Rattle.console.specs.declared.console.Console.{Console}
 use Rattle.console.specs.declared.knob_table.KnobTable.{KnobTable}
 use Rattle.console.specs.declared.piston_table.PistonTable.{PistonTable}

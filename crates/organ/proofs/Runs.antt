@@ -5,9 +5,9 @@ use Rattle.chest.specs.Meaning.{Meaning}
 use Rattle.book.specs.declared.board.Board.{Board}
 use Rattle.book.specs.declared.board.Board.TheVariants.{Coupler}
 use Rattle.book.specs.declared.book.BookWire.{BookWire}
-use Rattle.board.specs.Wires.{Reaches}
-use Rattle.board.specs.Layout.{Layout, with_wire}
-use Rattle.board.specs.Fitting.{fit_answer, lead_of}
+use Rattle.coupling.specs.Layout.{Reaches}
+use Rattle.wires.specs.Wired.{Wired, with_wire}
+use Rattle.wires.specs.Fitting.{fit_answer, lead_of}
 use Rattle.book.specs.Book.{same_board}
 use Rattle.organ.specs.Pass.{unless_first_refused, fit_run}
 
@@ -17,14 +17,14 @@ blank =
     record { line = 0; board = Coupler; wire = record { from = 0; lowest = 0; highest = 0; to = 0; shift = pos 0; knob = 0; position = 0 } }
 
 -- one wire of a list: passed over, fitted, or refused
-module _ (on : Board) (m : Meaning) (l : Layout) (ws : List BookWire) (n : ℕ) (h : n < length ws) where
+module _ (on : Board) (m : Meaning) (l : Wired) (ws : List BookWire) (n : ℕ) (h : n < length ws) where
   abbrev here : BookWire
   here = get_or ws n blank
 
   abbrev rest : List BookWire
   rest = drop (n + 1) ws
 
-  abbrev next : Layout
+  abbrev next : Wired
   next = with_wire l (lead_of here.wire)
 
   step : (b : Bool) → same_board on here.board ≡ b → fit_run on m l n (drop n ws) ≡ cond b (unless_first_refused (fit_answer l m here.wire) n here.line (fit_run on m next (n + 1) rest)) (fit_run on m l (n + 1) rest)
@@ -35,7 +35,7 @@ module _ (on : Board) (m : Meaning) (l : Layout) (ws : List BookWire) (n : ℕ) 
   pub skip_here : same_board on here.board ≡ false → fit_run on m l n (drop n ws) ≡ fit_run on m l (n + 1) rest
   skip_here e = step false e
 
-  pub fit_here : (l' : Layout) → same_board on here.board ≡ true → fit_answer l m here.wire ≡ Ok tt → l' ≡ with_wire l (lead_of here.wire) → fit_run on m l n (drop n ws) ≡ fit_run on m l' (n + 1) rest
+  pub fit_here : (l' : Wired) → same_board on here.board ≡ true → fit_answer l m here.wire ≡ Ok tt → l' ≡ with_wire l (lead_of here.wire) → fit_run on m l n (drop n ws) ≡ fit_run on m l' (n + 1) rest
   fit_here l' e a is =
       step true e ∙ ap (λ x. unless_first_refused x n here.line (fit_run on m next (n + 1) rest)) a ∙ ap (λ x. fit_run on m x (n + 1) rest) (sym is)
 
@@ -44,7 +44,7 @@ with_reach : Meaning → Reaches → Meaning
 with_reach m reach =
     record { reach = reach; register = m.register; panel = m.panel; speaking = m.speaking; strobes = m.strobes; rule = m.rule }
 
-pub run_reach : (on : Board) (m n : Meaning) → m.reach ≡ n.reach → (l : Layout) (k : ℕ) (ws : List BookWire) → fit_run on m l k ws ≡ fit_run on n l k ws
+pub run_reach : (on : Board) (m n : Meaning) → m.reach ≡ n.reach → (l : Wired) (k : ℕ) (ws : List BookWire) → fit_run on m l k ws ≡ fit_run on n l k ws
 unfolding with_reach
 run_reach on m n e l k [] = refl
 run_reach on m n e l k (w ∷ ws) =

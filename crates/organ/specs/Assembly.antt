@@ -5,14 +5,14 @@ use Rattle.chest.specs.Meaning.{Meaning}
 use Rattle.book.specs.declared.board.Board.{Board}
 use Rattle.book.specs.declared.board.Board.TheVariants.{Coupler, Stop}
 use Rattle.book.specs.declared.book.BookWire.{BookWire}
-use Rattle.board.specs.declared.relay_board.RelayBoard.{RelayBoard}
-use Rattle.board.specs.declared.fault.BoardFault.{BoardFault}
+use Rattle.board.specs.Relay.{RelayBoard, wired_of, meaning_of, Settled}
+use Rattle.wires.specs.declared.fault.BoardFault.{BoardFault}
 use Rattle.fittings.specs.declared.Wire.{Wire}
-use Rattle.board.specs.declared.lead.Lead.{Lead}
-use Rattle.board.specs.Wires.{Reaches, image}
-use Rattle.board.specs.Layout.{Layout, layout}
-use Rattle.board.specs.RelayBoard.{board_meaning, meaning_of, Settled}
-use Rattle.board.specs.Fitting.{fit_answer, lead_of}
+use Rattle.wires.specs.declared.lead.Lead.{Lead}
+use Rattle.coupling.specs.Layout.{Reaches}
+use Rattle.wires.specs.Wires.{image}
+use Rattle.wires.specs.Wired.{Wired, wired_meaning}
+use Rattle.wires.specs.Fitting.{fit_answer, lead_of}
 use Rattle.organ.specs.declared.refusal.Refusal.{Refusal}
 
 -- a wire that its board refuses is one fault of a book, whatever the board's own fault is
@@ -38,19 +38,19 @@ hung_on Stop h w = record { couplers = h.couplers; stops = h.stops ++ w ∷ [] }
 
 module _ (keys : Reaches) (m : Meaning) where
   -- the stop board over the bottom chest, and the coupler board over it: no key is set while wires are fitted
-  abbrev pub stop_layout : List Lead → Layout
-  stop_layout ws = record { reach = keys; below = m.reach; wires = ws; panel = m.panel; register = none }
+  abbrev pub stop_wired : List Lead → Wired
+  stop_wired ws = record { reach = keys; below = m.reach; wires = ws; panel = m.panel; register = none }
 
   abbrev pub stop_meaning : List Lead → Meaning
-  stop_meaning ws = board_meaning (stop_layout ws) m
+  stop_meaning ws = wired_meaning (stop_wired ws) m
 
-  abbrev pub coupler_layout : List Lead → Layout
-  coupler_layout ws = record { reach = keys; below = keys; wires = ws; panel = m.panel; register = none }
+  abbrev pub coupler_wired : List Lead → Wired
+  coupler_wired ws = record { reach = keys; below = keys; wires = ws; panel = m.panel; register = none }
 
   -- what the board of a wire answers to it where these hang
   abbrev pub board_answer : Board → Hung → Wire → Result Unit BoardFault
-  board_answer Coupler h w = fit_answer (coupler_layout h.couplers) (stop_meaning h.stops) w
-  board_answer Stop h w = fit_answer (stop_layout h.stops) m w
+  board_answer Coupler h w = fit_answer (coupler_wired h.couplers) (stop_meaning h.stops) w
+  board_answer Stop h w = fit_answer (stop_wired h.stops) m w
 
   -- the wires of a book in their order, each on its board as it then stands; or the first that its board refuses
   abbrev pub hang_after : Hung → List BookWire → Result Hung Refusal
@@ -78,7 +78,7 @@ module _ {C : Type 0} (meaning : C → Meaning) (settled : C → Type 0) where
   -- the settled stack of all wires, with the coupler board's on top; or just the first refusal
   abbrev pub Assembles : Reaches → Meaning → Result Hung Refusal → Result (RelayBoard (RelayBoard C)) Refusal → Type 0
   Assembles keys m (Ok h) (Ok s) =
-      Settled (meaning_of meaning) (Settled meaning settled) s × (meaning_of (meaning_of meaning) s ≡ stack_meaning keys m h) × (layout s.wiring ≡ coupler_layout keys m h.couplers)
+      Settled (meaning_of meaning) (Settled meaning settled) s × (meaning_of (meaning_of meaning) s ≡ stack_meaning keys m h) × (wired_of s.coupling ≡ coupler_wired keys m h.couplers)
   Assembles keys m (Ok h) (Err e) = ⊥
   Assembles keys m (Err e) (Ok s) = ⊥
   Assembles keys m (Err e) (Err f) = f ≡ e

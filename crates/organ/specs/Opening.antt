@@ -4,8 +4,7 @@ use Rattle.chest.specs.Places.{none}
 use Rattle.chest.specs.Meaning.{Meaning}
 use Rattle.book.specs.declared.book.Book.{Book}
 use Rattle.book.specs.Book.{keys_in}
-use Rattle.board.specs.declared.relay_board.RelayBoard.{RelayBoard}
-use Rattle.board.specs.RelayBoard.{meaning_of, Settled}
+use Rattle.board.specs.Relay.{RelayBoard, meaning_of, Settled}
 use Rattle.console.specs.declared.console.Console.{Console}
 use Rattle.console.specs.Model.{Setup, Model, first}
 use Rattle.console.specs.Record.{Making}

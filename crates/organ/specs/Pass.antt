@@ -4,19 +4,19 @@ use Rattle.chest.specs.Meaning.{Meaning}
 use Rattle.book.specs.declared.board.Board.{Board}
 use Rattle.book.specs.declared.book.BookWire.{BookWire}
 use Rattle.book.specs.Book.{on_board}
-use Rattle.board.specs.declared.fault.BoardFault.{BoardFault}
-use Rattle.board.specs.Layout.{Layout, with_wire}
-use Rattle.board.specs.Fitting.{fit_answer, lead_of}
+use Rattle.wires.specs.declared.fault.BoardFault.{BoardFault}
+use Rattle.wires.specs.Wired.{Wired, with_wire}
+use Rattle.wires.specs.Fitting.{fit_answer, lead_of}
 use Rattle.organ.specs.declared.refusal.Refusal.{Refusal}
 use Rattle.organ.specs.declared.assembly.FirstRefused.{FirstRefused}
 
-abbrev pub unless_first_refused : Result Unit BoardFault → ℕ → ℕ → Result Layout FirstRefused → Result Layout FirstRefused
+abbrev pub unless_first_refused : Result Unit BoardFault → ℕ → ℕ → Result Wired FirstRefused → Result Wired FirstRefused
 unless_first_refused (Ok x) number line rest = rest
 unless_first_refused (Err e) number line rest =
     Err (record { number = number; refusal = record { line = line; fault = e } })
 
 -- a board over a chest takes its own wires of a list, which are numbered from n on: all, or the first that it refuses
-abbrev pub fit_run : Board → Meaning → Layout → ℕ → List BookWire → Result Layout FirstRefused
+abbrev pub fit_run : Board → Meaning → Wired → ℕ → List BookWire → Result Wired FirstRefused
 fit_run on m l n [] = Ok l
 fit_run on m l n (w ∷ ws) =
     cond (on_board on w) (unless_first_refused (fit_answer l m w.wire) n w.line (fit_run on m (with_wire l (lead_of w.wire)) (n + 1) ws)) (fit_run on m l (n + 1) ws)

@@ -1,7 +1,6 @@
 //! From a book's record to a stack: coupler board and stop board over a bottom chest, with the book's wires.
 ghost use Rattle.std.specs.Prelude.{◌≡◌, Ok, Err, MatchResult};
-ghost use Rattle.board.specs.RelayBoard.{Settled};
-ghost use Rattle.board.specs.Layout.{layout};
+ghost use Rattle.board.specs.Relay.{Settled, wired_of};
 ghost use Rattle.chest.specs.Reaches.{reach_of};
 ghost use Rattle.book.specs.Book.{keys_in};
 ghost use Rattle.organ.specs.Assembly.{hang_all, Assembles};
@@ -10,7 +9,8 @@ ghost use Rattle.organ.specs.Pass.{fit_run, earlier_of};
 
 use crate::refusal::Refusal;
 use crate::stack::Stack;
-use board::relay_board::RelayBoard;
+use board::fitting::fit;
+use board::relay::RelayBoard;
 use book::{Board, Book, BookWire};
 use chest::chest::{Chest, ROWS};
 use std::array;
@@ -28,14 +28,14 @@ fn fit_all<C: Chest>(
     wires: &[BookWire],
     on: Board,
 ) -> Result<(), FirstRefused>
-    ensures cases { MatchResult result (λ _. fit_run on (C.Chest.meaning board.old.below.chest) (layout board.old.wiring) 0 wires.now ≡ Ok (layout board.new.wiring)) (λ e. fit_run on (C.Chest.meaning board.old.below.chest) (layout board.old.wiring) 0 wires.now ≡ Err e) }
-    ensures reach { (layout board.new.wiring).reach ≡ (layout board.old.wiring).reach }
+    ensures cases { MatchResult result (λ _. fit_run on (C.Chest.meaning board.old.below) (wired_of board.old.coupling) 0 wires.now ≡ Ok (wired_of board.new.coupling)) (λ e. fit_run on (C.Chest.meaning board.old.below) (wired_of board.old.coupling) 0 wires.now ≡ Err e) }
+    ensures reach { (wired_of board.new.coupling).reach ≡ (wired_of board.old.coupling).reach }
     ensures below { board.new.below ≡ board.old.below }
     ensures settled { Settled C.Chest.meaning C.Chest.settled board.old → Settled C.Chest.meaning C.Chest.settled board.new }
 {
     for (number, wire) in wires.iter().enumerate() {
         if wire.board == on {
-            board.fit(wire.wire).map_err(|fault| FirstRefused {
+            fit(board, wire.wire).map_err(|fault| FirstRefused {
                 number,
                 refusal: Refusal {
                     line: wire.line,

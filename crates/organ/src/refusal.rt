@@ -2,7 +2,7 @@
 ghost use Rattle.std.specs.Prelude.{◌≡◌};
 ghost use Rattle.organ.specs.Assembly.{refusal_number};
 
-use board::fault::BoardFault;
+use wires::fault::BoardFault;
 
 /// Has the line where the book has the wire, and why its board takes none such.
 #[derive(Clone, Copy, Debug, PartialEq)]

@@ -5,13 +5,12 @@ ghost use Rattle.bottom.specs.MagnetChest.{magnet_meaning, MagnetSettled};
 ghost use Rattle.bottom.specs.MidiChest.{midi_meaning, MidiSettled, midi_sent};
 ghost use Rattle.bottom.specs.Receiver.{DrainLaw};
 ghost use Rattle.bottom.specs.Sending.{MidiSends};
-ghost use Rattle.board.specs.Layout.{layout};
-ghost use Rattle.board.specs.RelayBoard.{meaning_of, Settled};
-ghost use Rattle.board.specs.Making.{new_layout, new_meaning};
-ghost use Rattle.board.specs.Sending.{HandsOn};
+ghost use Rattle.board.specs.Relay.{wired_of, meaning_of, Settled};
+ghost use Rattle.wires.specs.Wired.{bare_wired, bare_meaning};
+ghost use Rattle.coupling.specs.Sending.{HandsOn};
 ghost use Rattle.console.specs.Sending.{Sends, StillTracks, Linked};
 
-use board::relay_board::RelayBoard;
+use board::relay::RelayBoard;
 use bottom::magnet_chest::MagnetChest;
 use bottom::midi_chest::MidiChest;
 use chest::chest::ROWS;
@@ -23,8 +22,8 @@ pub type Stack<C> = RelayBoard<RelayBoard<C>>;
 /// Two boards without a wire over a magnet chest with these ranks, as every stack begins.
 pub fn bare_stack(keys: [u8; ROWS], ranks: [u8; ROWS]) -> Stack<MagnetChest>
     ensures settled { Settled (meaning_of magnet_meaning) (Settled magnet_meaning MagnetSettled) result }
-    ensures items { layout result.wiring ≡ new_layout keys (meaning_of magnet_meaning result.below.chest) }
-    ensures value { meaning_of (meaning_of magnet_meaning) result ≡ new_meaning keys (new_meaning keys (new_bottom ranks)) }
+    ensures items { wired_of result.coupling ≡ bare_wired keys (meaning_of magnet_meaning result.below) }
+    ensures value { meaning_of (meaning_of magnet_meaning) result ≡ bare_meaning keys (bare_meaning keys (new_bottom ranks)) }
 {
     let stops = RelayBoard::new(MagnetChest::new(ranks), keys);
     RelayBoard::new(stops, keys)
@@ -37,7 +36,7 @@ pub fn send_from_foot(console: &mut Console<Stack<MidiChest>>, buffer: &mut [u8]
     ensures stands { StillTracks (meaning_of (meaning_of midi_meaning)) (Settled (meaning_of midi_meaning) (Settled midi_meaning MidiSettled)) console.old console.new }
     ensures links { Linked (meaning_of (meaning_of midi_meaning)) (Settled (meaning_of midi_meaning) (Settled midi_meaning MidiSettled)) console.old console.new }
     ensures bound { result ≤ length buffer.new }
-    ensures foot { DrainLaw (midi_meaning console.old.chest.below.chest.below.chest).speaking (midi_sent console.old.chest.below.chest.below.chest) (midi_sent console.new.chest.below.chest.below.chest) (length buffer.old) (take result buffer.new) }
+    ensures foot { DrainLaw (midi_meaning console.old.chest.below.below).speaking (midi_sent console.old.chest.below.below) (midi_sent console.new.chest.below.below) (length buffer.old) (take result buffer.new) }
 {
     console.send(buffer)
 }

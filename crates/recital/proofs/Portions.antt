@@ -11,8 +11,7 @@ use Rattle.book.specs.declared.book.Book.{Book}
 use Rattle.book.specs.Book.{pipes_in}
 use Rattle.book.specs.Entry.{Entry as Written, Holds}
 use Rattle.book.specs.Reading.{Answers, read_of}
-use Rattle.board.specs.declared.relay_board.RelayBoard.{RelayBoard}
-use Rattle.board.specs.RelayBoard.{meaning_of, Settled}
+use Rattle.board.specs.Relay.{RelayBoard, meaning_of, Settled}
 use Rattle.console.specs.declared.call.Call.{Call}
 use Rattle.console.specs.Keys.{sounding}
 use Rattle.console.specs.Model.{Setup, Model, first, after}

@@ -8,8 +8,7 @@ use Rattle.midi.specs.Reading.{reading}
 use Rattle.midi.specs.State.{HasRead}
 use Rattle.book.specs.declared.book.Book.{Book}
 use Rattle.book.specs.Book.{keys_in}
-use Rattle.board.specs.declared.relay_board.RelayBoard.{RelayBoard}
-use Rattle.board.specs.RelayBoard.{meaning_of, Settled}
+use Rattle.board.specs.Relay.{RelayBoard, meaning_of, Settled}
 use Rattle.console.specs.declared.call.Call.{Call}
 use Rattle.console.specs.Model.{Setup, Model, first, check, after}
 use Rattle.console.specs.Record.{Answer, Entry, EntryLaw, RecordLaw, pipes_of, strobing, answer_of}

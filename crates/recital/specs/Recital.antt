@@ -9,8 +9,7 @@ use Rattle.book.specs.declared.book.Book.{Book}
 use Rattle.book.specs.Book.{pipes_in}
 use Rattle.book.specs.Entry.{Entry}
 use Rattle.book.specs.Reading.{read_of}
-use Rattle.board.specs.declared.relay_board.RelayBoard.{RelayBoard}
-use Rattle.board.specs.RelayBoard.{meaning_of, Settled}
+use Rattle.board.specs.Relay.{RelayBoard, meaning_of, Settled}
 use Rattle.bottom.specs.declared.magnet_chest.MagnetChest.{MagnetChest}
 use Rattle.bottom.specs.MagnetChest.{magnet_meaning, MagnetSettled}
 use Rattle.console.specs.declared.console.Console.{Console}

@@ -30,10 +30,13 @@ layout_of w =
 abbrev pub wired_meaning : Wired → Meaning → Meaning
 wired_meaning w m = board_meaning (layout_of w) m
 
--- a board as it is made: these reaches, no wire and no key
+-- a board as it is made over a chest, and what it means: these reaches, no wire and no key
 abbrev pub bare_wired : List ℕ → Meaning → Wired
 bare_wired reaches m =
     record { reach = reach_of reaches; below = m.reach; wires = []; panel = m.panel; register = none }
+
+abbrev pub bare_meaning : List ℕ → Meaning → Meaning
+bare_meaning reaches m = wired_meaning (bare_wired reaches m) m
 
 -- one key put on or off, one knob turned, one wire more
 abbrev pub with_key : Wired → ℕ → ℕ → Bool → Wired

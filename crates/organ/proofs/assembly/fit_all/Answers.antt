@@ -5,9 +5,9 @@ use Rattle.book.specs.contracts.board.Board.{the_type}
 use Rattle.book.specs.declared.board.Board.{Board}
 use Rattle.book.specs.declared.board.Board.TheVariants.{Coupler, Stop}
 use Rattle.book.specs.Book.{same_board}
-use Rattle.board.specs.RelayBoard.{Settled}
-use Rattle.board.specs.Layout.{layout, with_wire}
-use Rattle.board.specs.Fitting.{fit_answer, lead_of}
+use Rattle.board.specs.Relay.{Settled, wired_of}
+use Rattle.wires.specs.Wired.{with_wire}
+use Rattle.wires.specs.Fitting.{fit_answer, lead_of}
 use Rattle.organ.specs.Pass.{fit_run}
 use Rattle.organ.proofs.Runs.{blank, skip_here, fit_here}
 use Rattle.organ.proofs.assembly.fit_all.Goals as goal
@@ -23,21 +23,21 @@ pub loop-number-preserved : goal.loop-number-preserved
 loop-number-preserved g c =
     let meaning = g.C.Chest.meaning in
     let settled = g.C.Chest.settled in
-    let m = meaning c.args.board.now.below.chest in
+    let m = meaning c.args.board.now.below in
     let on = c.args.on in
     let ws = c.args.wires.now in
     let i = c.loop-number.number-counter in
     let inv = c.loop-number.invariant in
-    let l = layout c.loop-number.board.wiring in
-    let next = layout c.if-eq.board.wiring in
+    let l = wired_of c.loop-number.board.coupling in
+    let next = wired_of c.if-eq.board.coupling in
     let here = get_or ws i blank in
     let is = sym (same_is here.board on) ∙ sym c.eq.ensures in
     elim c.if-eq.branch [
       | then-eq+in_ok-map_err w ↦
           let fine : w.fit.result ≡ Ok tt = search rules in
-          let answer = sym fine ∙ w.fit.ensures.answer ∙ (λ j. fit_answer l (meaning (inv.2 j).chest) here.wire) in
-          let items = subst (λ r. OnOk r ((w.fit.new.self.below ≡ c.loop-number.board.below) × (layout w.fit.new.self.wiring ≡ with_wire l (lead_of here.wire)))) fine w.fit.ensures.items in
-          let added = ap (λ b. layout b.wiring) w.board-is ∙ items.1 in (
+          let answer = sym fine ∙ w.fit.ensures.answer ∙ (λ j. fit_answer l (meaning (inv.2 j)) here.wire) in
+          let items = subst (λ r. OnOk r ((w.fit.new.board.below ≡ c.loop-number.board.below) × (wired_of w.fit.new.board.coupling ≡ with_wire l (lead_of here.wire)) × (w.fit.new.board.coupling.ways ≡ c.loop-number.board.coupling.ways))) fine w.fit.ensures.items in
+          let added = ap (λ b. wired_of b.coupling) w.board-is ∙ items.1 in (
             inv.0 ∙ fit_here on m l ws i c.loop-number-test.true next (is ∙ w.if-eq.true) (sym answer) added,
             ap (λ x. x.reach) added ∙ inv.1,
             ap (λ b. b.below) w.board-is ∙ items.0 ∙ inv.2,
@@ -45,8 +45,8 @@ loop-number-preserved g c =
                 subst (Settled meaning settled) (sym w.board-is) (w.fit.ensures.after (inv.3 start)).0,
           )
       | else-eq w ↦ (
-        inv.0 ∙ skip_here on m l ws i c.loop-number-test.true (is ∙ w.if-eq.false) ∙ ap (λ b. fit_run on m (layout b.wiring) (i + 1) (drop (i + 1) ws)) (sym w.board-is),
-        ap (λ b. (layout b.wiring).reach) w.board-is ∙ inv.1,
+        inv.0 ∙ skip_here on m l ws i c.loop-number-test.true (is ∙ w.if-eq.false) ∙ ap (λ b. fit_run on m (wired_of b.coupling) (i + 1) (drop (i + 1) ws)) (sym w.board-is),
+        ap (λ b. (wired_of b.coupling).reach) w.board-is ∙ inv.1,
         ap (λ b. b.below) w.board-is ∙ inv.2,
         λ start.
             subst (Settled meaning settled) (sym w.board-is) (inv.3 start),

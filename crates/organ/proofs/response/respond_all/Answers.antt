@@ -5,10 +5,9 @@ use Rattle.std.proofs.lemmas.Result.{IfOk-at_ok, err_from_is_err_and}
 use Rattle.std.specs.List.{HoldsAt}
 use Rattle.organ.specs.declared.action.Action.TheVariants.{Nothing}
 use Rattle.organ.specs.Line.{LacksRoom}
-use Rattle.organ.specs.Responses.{LacksRoomAt}
+use Rattle.organ.specs.Responses.{LacksRoomAt, Responds}
 use Rattle.midi.specs.declared.message.Message.TheVariants.{NoteOff}
 use Rattle.organ.specs.Action.{action_of}
-use Rattle.organ.specs.Responses.{Responds}
 use Rattle.organ.specs.Answered.{Answered}
 use Rattle.organ.proofs.Answering.{answered_more}
 use Rattle.organ.proofs.response.respond_all.Goals as goal
