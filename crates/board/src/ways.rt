@@ -34,23 +34,18 @@ impl Ways {
         }
     }
 
-    // Whether some way leads to a place.
-    fn stands(&self, at: Place) -> bool
-        ensures { result ≡ nat_lt 0 (at_place self.now.table at.row at.place) }
-    {
-        self.table[at.index()] > 0
-    }
-
-    // One way more to a place, or one less.
-    fn count(&mut self, at: Place, swing: Swing)
+    // One way more to a place, or one less; answers how many there are then.
+    fn count(&mut self, at: Place, swing: Swing) -> u8
         requires { Fits (starts swing) (at_place self.old.table at.row at.place) 1 }
-        ensures { Moves (starts swing) self.old.table self.new.table (one_at at.row at.place) }
+        ensures value { result ≡ at_place self.new.table at.row at.place }
+        ensures moves { Moves (starts swing) self.old.table self.new.table (one_at at.row at.place) }
     {
         let ways = &mut self.table[at.index()];
         match swing {
             Swing::Starts => *ways += 1,
             Swing::Stops => *ways -= 1,
         }
+        *ways
     }
 
     // The same, and the first way puts the place on below, the last one off.
@@ -59,11 +54,10 @@ impl Ways {
         ensures moves { Moves (starts swing) self.old.table self.new.table (one_at at.row at.place) }
         ensures keeps { (reach : Reaches) → at.place < reach at.row → Keeps C.Chest.meaning C.Chest.settled reach self.old.table below.old self.new.table below.new }
     {
-        let stood = self.stands(at);
-        self.count(at, swing);
-        let stands = self.stands(at);
-        if stands != stood {
-            below.put(at, stands);
+        match (swing, self.count(at, swing)) {
+            (Swing::Starts, 1) => below.put(at, true),
+            (Swing::Stops, 0) => below.put(at, false),
+            _ => {}
         }
     }
 
