@@ -98,7 +98,7 @@ impl Ways {
     {
         let mut rest = wiring.waiting.of(turn.to.knob()).rest();
         while let Some(number) = rest.pop_first() {
-            let w = wiring.lead(number);
+            let w = *wiring.lead(number);
             if let Some(swing) = turn.swing(w) {
                 self.swing_wire(below, wiring, w, swing);
             }

@@ -65,17 +65,17 @@ impl Wiring {
     }
 
     // A wire by its number.
-    pub(crate) fn lead(&self, number: usize) -> Lead
+    pub(crate) fn lead(&self, number: usize) -> &Lead
         requires { number < length (wires self.now) }
-        ensures { result ≡ slice_index_or (wires self.now) number blank }
+        ensures { result.now ≡ slice_index_or (wires self.now) number blank }
     {
-        self.leads[number]
+        &self.leads[number]
     }
 
     // Where a key leads through a wire that leads somewhere from it.
-    pub(crate) fn outlet(&self, w: Lead, key: Place) -> Place
-        requires { is_some (outlet (beneath self.now) (panel self.now) w key.row key.place) ≡ true }
-        ensures { outlet (beneath self.now) (panel self.now) w key.row key.place ≡ Some (spot result) }
+    pub(crate) fn outlet(&self, w: &Lead, key: Place) -> Place
+        requires { is_some (outlet (beneath self.now) (panel self.now) w.now key.row key.place) ≡ true }
+        ensures { outlet (beneath self.now) (panel self.now) w.now key.row key.place ≡ Some (spot result) }
     {
         Place {
             row: usize::from(w.to),

@@ -1,6 +1,6 @@
 -- Two sets of numbers below 64 as one. Assumes nothing.
-use Rattle.std.proofs.Common.{◌≡◌, ℕ, ◌+◌, ◌-◌, ◌<◌, ◌≤◌, Bool, true, false, cond, ◌&&◌, ltb, Some, None, Option, is_some, refl, sym, ap, ◌∙◌, arith, ⊎_elim}
-use Rattle.std.proofs.lemmas.Bool.{cases_lt, false≢true}
+use Rattle.std.proofs.Common.{◌≡◌, ℕ, ◌+◌, ◌-◌, ◌<◌, ◌≤◌, Bool, true, false, cond, ◌&&◌, ltb, Some, None, Option, is_some, refl, sym, ap, subst, ◌∙◌, arith, ⊎_elim}
+use Rattle.std.proofs.lemmas.Bool.{cases_lt}
 use Rattle.std.proofs.lemmas.Bool.Decides.{nat_tests}
 use Rattle.sets.specs.declared.word.Word.{Word}
 use Rattle.sets.specs.NumberSet.{members, left_of, empty}
@@ -65,13 +65,12 @@ pub members_empty : members empty ≡ nothing
 members_empty = (λ i. joined (bits_none i) (bits_none i)) ∙ joined_none
 
 -- the words that are left, as one of them is popped
-pub left_low : (w v : Word) (o : Option Word) (k : ℕ) → k < 64 → is_some o ≡ true → PopsFirst (bits_of w.bits) (bits_of v.bits) (Some k) → PopsFirst (left_of w o) (left_of v o) (Some k)
-left_low w v None k h e p = absurd (false≢true e)
-left_low w v (Some later) k h e p = pops_low (bits_of w.bits) (bits_of v.bits) (bits_of later.bits) k h p
-
-pub left_high : (w v : Word) (o : Option Word) (k : ℕ) → is_some o ≡ false → PopsFirst (bits_of w.bits) (bits_of v.bits) (Some k) → PopsFirst (left_of w o) (left_of v o) (Some (64 + k))
-left_high w v None k e p = pops_high nothing nothing (bits_of w.bits) (bits_of v.bits) k (refl, refl) p
-left_high w v (Some later) k e p = absurd (false≢true (sym e))
+pub left_word : (w v : Word) (o : Option Word) (first k : ℕ) → first ≡ cond (is_some o) 0 64 → k < 64 → PopsFirst (bits_of w.bits) (bits_of v.bits) (Some k) → PopsFirst (left_of w o) (left_of v o) (Some (first + k))
+left_word w v None first k from h p =
+    subst (λ n. PopsFirst (left_of w None) (left_of v None) (Some (n + k))) (sym from) (pops_high nothing nothing (bits_of w.bits) (bits_of v.bits) k (refl, refl) p)
+left_word w v (Some later) first k from h p =
+    let same : k ≡ first + k = omega (arith, from) in
+    subst (λ n. PopsFirst (left_of w (Some later)) (left_of v (Some later)) (Some n)) same (pops_low (bits_of w.bits) (bits_of v.bits) (bits_of later.bits) k h p)
 
 -- the high word follows
 pub left_next : (w v u : Word) (k : ℕ) → bits_of w.bits ≡ nothing → PopsFirst (bits_of v.bits) (bits_of u.bits) (Some k) → PopsFirst (left_of w (Some v)) (left_of u None) (Some (64 + k))

@@ -60,6 +60,7 @@ impl NumberSet {
     {
         Rest {
             word: self.low,
+            first: 0,
             later: Some(self.high),
         }
     }

@@ -1,5 +1,5 @@
 //! What is left of a set while its numbers are taken one by one.
-ghost use Rattle.std.specs.Prelude.{◌≡◌, ◌<◌, IfSome};
+ghost use Rattle.std.specs.Prelude.{◌≡◌, ◌<◌, if◌then◌else◌, is_some, IfSome};
 ghost use Rattle.sets.specs.Numbers.{PopsFirst};
 
 use crate::number_set::WORD;
@@ -10,7 +10,10 @@ use crate::word::Word;
 #[derive(Clone, Copy)]
 pub struct Rest {
     pub(crate) word: Word,
+    // the number of its first bit
+    pub(crate) first: usize,
     pub(crate) later: Option<Word>,
+    ghost from: { first ≡ if is_some later then 0 else 64 },
 }
 
 impl Rest {
@@ -22,13 +25,10 @@ impl Rest {
         ensures bound { IfSome result (λ number. number < 128) }
     {
         if let Some(number) = self.word.pop_first() {
-            return Some(if self.later.is_some() {
-                number
-            } else {
-                WORD + number
-            });
+            return Some(self.first + number);
         }
         self.word = self.later.take()?;
+        self.first = WORD;
         let number = self.word.pop_first()?;
         Some(WORD + number)
     }

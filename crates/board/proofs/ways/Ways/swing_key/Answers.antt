@@ -62,7 +62,7 @@ loop-number-preserved g c =
     let within = (among_in leads (wires h) k (inv.0 k pops.0)).0 in (
       λ i left. inv.0 i (still_in s t k pops i left),
       λ b q hb hq. key_more h key.row key.place on b q c.requires.other s t k (at_place c.loop-number.self.table b q) within pops (inv.1 b q hb hq) (Some (spot at)) is (at_place c.bump.new.self.table b q) (c.bump.ensures.moves b q hb hq),
-      keeps_more inv.2 (c.bump.ensures.keeps (beneath h) (outlet-below (beneath h) (panel h) c.lead.result key.row key.place (spot at) c.outlet-at.ensures)),
+      keeps_more inv.2 (c.bump.ensures.keeps (beneath h) (outlet-below (beneath h) (panel h) c.lead.result.now key.row key.place (spot at) c.outlet-at.ensures)),
     )
 
 pub returns-clause-exact : goal.returns-clause-exact

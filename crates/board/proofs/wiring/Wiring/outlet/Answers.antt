@@ -7,13 +7,13 @@ use Rattle.board.proofs.wiring.Wiring.outlet.Goals as goal
 pub overflow_sub-result : goal.overflow_sub-result
 overflow_sub-result c =
     let h = c.args.self.now in
-    let some = outlet_some (beneath h) (panel h) c.args.w c.args.key.row c.args.key.place c.requires in
+    let some = outlet_some (beneath h) (panel h) c.args.w.now c.args.key.row c.args.key.place c.requires in
     omega (arith, some.0, c.from-2.ensures, c.from-3.ensures)
 
 pub invariant_of-result : goal.invariant_of-result
 invariant_of-result c =
     let h = c.args.self.now in
-    let w = c.args.w in
+    let w = c.args.w.now in
     let some = outlet_some (beneath h) (panel h) w c.args.key.row c.args.key.place c.requires in
     let most = beneath_most h.desk w.to in
     let row = beneath_row h.desk w.to _ some.1 in
@@ -25,5 +25,5 @@ invariant_of-result c =
 pub returns : goal.returns
 returns c =
     let h = c.args.self.now in
-    let some = outlet_some (beneath h) (panel h) c.args.w c.args.key.row c.args.key.place c.requires in
+    let some = outlet_some (beneath h) (panel h) c.args.w.now c.args.key.row c.args.key.place c.requires in
     some.2 ∙ (λ i. Some (sym c.from.ensures i, c.args.key.place + sym c.from-2.ensures i - sym c.from-3.ensures i))

@@ -3,7 +3,7 @@ use Rattle.std.proofs.Common.{◌≡◌, ◌+◌, ℕ, Some, None, Option, sym, 
 use Rattle.sets.specs.declared.word.Word.{Word}
 use Rattle.sets.specs.Numbers.{PopsFirst}
 use Rattle.sets.specs.NumberSet.{left_of, remaining}
-use Rattle.sets.proofs.Joined.{left_low, left_high, left_next, left_last, left_none}
+use Rattle.sets.proofs.Joined.{left_word, left_next, left_last, left_none}
 use Rattle.sets.proofs.rest.Rest.pop_first.Goals as goal
 
 -- the high word as it is taken
@@ -11,15 +11,10 @@ moved : (w v : Word) {o p m n : Option Word} (r : Option ℕ) → o ≡ m → p 
 moved w v {o} {p} {m} {n} r e f pops =
     subst (λ x. PopsFirst (left_of w x) (left_of v p) r) (sym e) (subst (λ x. PopsFirst (left_of w m) (left_of v x) r) (sym f) pops)
 
-pub returns-then-is_some-clause-value : goal.returns-then-is_some-clause-value
-returns-then-is_some-clause-value c =
+pub returns-in-Some-clause-value : goal.returns-in-Some-clause-value
+returns-in-Some-clause-value c =
     let self = c.args.self.now in
-    left_low self.word c.pop_first.new.self self.later c.in-Some.number c.in-Some.ensures.bound (sym c.is_some.ensures ∙ c.if-is_some.true) c.in-Some.ensures.value
-
-pub returns-else-is_some-clause-value : goal.returns-else-is_some-clause-value
-returns-else-is_some-clause-value c =
-    let self = c.args.self.now in
-    left_high self.word c.pop_first.new.self self.later c.in-Some.number (sym c.is_some.ensures ∙ c.if-is_some.false) c.in-Some.ensures.value
+    left_word self.word c.pop_first.new.self self.later self.first c.in-Some.number self.from c.in-Some.ensures.bound c.in-Some.ensures.value
 
 pub returns-in_err-self-clause-value : goal.returns-in_err-self-clause-value
 returns-in_err-self-clause-value c =
