@@ -1,12 +1,8 @@
 -- The tables of wires by key and by knob. Assumes nothing.
-use Rattle.std.proofs.Common.{◌≡◌, ℕ, ◌+◌, ◌-◌, ◌<◌, ◌≤◌, Bool, true, false, cond, ◌&&◌, eqb, ltb, ◌≢◌, List, length, get_or, set, Some, None, Option, is_some, nat_le, refl, ap, ◌∙◌, ⊎_elim, arith}
+use Rattle.std.proofs.Common.{◌≡◌, ℕ, ◌+◌, ◌-◌, ◌<◌, ◌≤◌, Bool, true, false, cond, ◌&&◌, eqb, ltb, ◌≢◌, Some, None, Option, is_some, nat_le, refl, ap, ◌∙◌, ⊎_elim, arith}
 use Rattle.std.specs.Option.{option_map}
-use Rattle.std.proofs.lemmas.List.{get_or-set_same, get_or-set_other, get_or_default}
 use Rattle.std.proofs.lemmas.Bool.{cases_eq, false≢true, leb-true, ltb-true}
 use Rattle.std.proofs.lemmas.Bool.Decides.{nat_tests}
-use Rattle.sets.specs.declared.number_set.NumberSet.{NumberSet}
-use Rattle.sets.specs.Numbers.{with_number}
-use Rattle.sets.specs.NumberSet.{members, empty}
 use Rattle.wires.specs.declared.lead.Lead.{Lead}
 use Rattle.chest.specs.Meaning.{Panel, knob_to}
 use Rattle.coupling.specs.Layout.{Reaches}

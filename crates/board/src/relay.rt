@@ -54,7 +54,8 @@ impl Coupling for Relay {
 
     fn put<C: Chest>(&mut self, below: &mut C, at: Place, on: bool) {
         if self.wiring.desk.moves(at, on) {
-            self.ways.swing_key(below, &self.wiring, at, Swing::from(on));
+            self.ways
+                .swing_key(below, &self.wiring, at, Swing::from(on));
             self.wiring.put(at, on);
         }
     }

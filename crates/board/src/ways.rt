@@ -62,7 +62,13 @@ impl Ways {
     }
 
     // The ways that a key gives or takes, once the register has it put on or off.
-    pub(crate) fn swing_key<C: Chest>(&mut self, below: &mut C, wiring: &Wiring, key: Place, swing: Swing)
+    pub(crate) fn swing_key<C: Chest>(
+        &mut self,
+        below: &mut C,
+        wiring: &Wiring,
+        key: Place,
+        swing: Swing,
+    )
         requires exact { Exact self.old.table (wired wiring.now) }
         requires other { (wired wiring.now).register key.row key.place ≡ not (starts swing) }
         ensures exact { Exact self.new.table (with_key (wired wiring.now) key.row key.place (starts swing)) }

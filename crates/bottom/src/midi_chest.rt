@@ -1,5 +1,5 @@
 //! The MIDI chest: what changes among its speaking pipes is sent as notes to a receiver.
-ghost use Rattle.std.specs.Prelude.{◌≡◌, ℕ, ◌≤◌, List, [], ◌++◌, length, take, drop, OnErr};
+ghost use Rattle.std.specs.Prelude.{◌≡◌, ℕ, ◌≤◌, false, List, [], ◌++◌, length, take, drop, is_ok, OnErr};
 ghost use Rattle.chest.specs.Places.{none, changed};
 ghost use Rattle.chest.specs.Meaning.{Becomes, set_answer, set_after, turn_answer, turn_after, strobe_after};
 ghost use Rattle.bottom.specs.Foot.{new_bottom};
@@ -14,6 +14,7 @@ use crate::foot::Foot;
 use crate::pipe_table::BYTES;
 use chest::chest::{Chest, ROWS};
 use chest::fault::ChestFault;
+use chest::place::Place;
 use chest::sender::Sender;
 
 /// A chest at the foot of a stack that tells a receiver what starts and stops.
@@ -81,6 +82,15 @@ impl Chest for MidiChest {
         ensures run { (line : List ℕ) → Run self.old line → Run self.new line }
     {
         self.foot.set(row, place, on)
+    }
+
+    fn put(&mut self, at: Place, on: bool)
+        ensures same { is_ok (set_answer (midi_meaning self.old) at.row at.place) ≡ false → self.new ≡ self.old }
+        ensures after { Becomes midi_meaning MidiSettled self.old self.new (set_after (midi_meaning self.old) at.row at.place on) }
+        ensures sent { NothingSent self.old self.new }
+        ensures run { (line : List ℕ) → Run self.old line → Run self.new line }
+    {
+        let _ = self.set(at.row, at.place, on);
     }
 
     fn turn(&mut self, knob: usize, position: usize) -> Result<(), ChestFault>

@@ -1,4 +1,4 @@
-//! The trait of a chest: what it means, the laws that it keeps, and its five calls.
+//! The trait of a chest: what it means, the laws that it keeps, and its calls.
 ghost use Rattle.std.specs.Prelude.{◌≡◌, ℕ, Bool, false, is_ok, OnErr};
 ghost use Rattle.chest.specs.Places.{none, changed};
 ghost use Rattle.chest.specs.Meaning.{Meaning, Panel, Bounded, Becomes, reach_answer, position_answer, set_answer, set_after, turn_answer, turn_after, strobe_after};

@@ -1,5 +1,5 @@
 -- What a key desk holds. Assumes nothing.
-use Rattle.std.specs.Prelude.{◌≡◌, ℕ, slice_index_or}
+use Rattle.std.specs.Prelude.{◌≡◌, slice_index_or}
 use Rattle.std.proofs.Common.{arith}
 use Rattle.std.proofs.lemmas.Bool.Decides.{nat_tests}
 use Rattle.sets.specs.NumberSet.{members, empty}

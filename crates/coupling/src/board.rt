@@ -12,8 +12,8 @@ use chest::setting::Setting;
 use chest::walks;
 
 /// What is done to keys is the coupling's; all else that a board is stands here, for every coupling over every chest.
-// public fields: what is fitted to a coupling is a matter of its own crate. A board is settled by a law that each call keeps,
-// not by its type, so that nobody can break one by its fields.
+// public fields: fitting is a call of the coupling's own crate, which cannot add one to this type. That a board is settled is
+// no invariant of the type but what each call says it keeps; who writes the fields by hand loses that.
 #[derive(Drop)]
 pub struct Board<K, C> {
     pub coupling: K,
@@ -23,7 +23,6 @@ pub struct Board<K, C> {
 impl<K: Coupling, C: Chest> Board<K, C> {
     ghost use Rattle.chest.specs.Places.{none};
     ghost use Rattle.chest.specs.Meaning.{Becomes, with_register};
-    ghost use Rattle.coupling.specs.Layout.{new_layout};
     ghost use Rattle.coupling.specs.Board.{meaning_of, Settled};
     ghost use Rattle.coupling.specs.Making.{new_over, new_meaning};
 

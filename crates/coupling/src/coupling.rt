@@ -1,7 +1,7 @@
 //! The trait of a coupling: what a board wants below, and how it has the chest below follow.
 ghost use Rattle.std.specs.Prelude.{◌≡◌, ◌==◌, not, false};
 ghost use Rattle.chest.specs.Setting.{knob_of, position_of};
-ghost use Rattle.coupling.specs.Layout.{Image, Layout, Sound, Plays, key_put, key_moves, with_knob};
+ghost use Rattle.coupling.specs.Layout.{Image, Layout, Sound, Follows, key_put, key_moves, with_knob};
 ghost use Rattle.coupling.specs.KeyDesk.{layout_of};
 
 use crate::key_desk::KeyDesk;
@@ -20,7 +20,7 @@ pub trait Coupling {
     // The image of a coupling to which nothing is fitted.
     ghost blank: { Image };
 
-    // Whether nothing is fitted to it. The image does not tell: there may be wires from rows without keys.
+    // Whether nothing is fitted to it. The image does not tell: that of a wire whose keys all land below 0 is empty too.
     ghost bare: { Self → Type 0 };
 
     /// A coupling to which nothing is fitted.
@@ -36,7 +36,7 @@ pub trait Coupling {
     fn put<C: Chest>(&mut self, below: &mut C, at: Place, on: bool)
         ensures own { layout self.new ≡ key_put (layout self.old) at.row at.place on }
         ensures still { key_moves (layout self.old) at.row at.place on ≡ false → (self.new ≡ self.old) × (below.new ≡ below.old) }
-        ensures plays { Plays C.Chest.meaning C.Chest.settled (layout self.old) (layout self.new) below.old below.new };
+        ensures follows { Follows C.Chest.meaning C.Chest.settled (layout self.old) (layout self.new) below.old below.new };
 
     /// Turns a knob here, and shows below what is then wanted; answers whether the knob moved. The knob below is the board's
     /// to turn, after that.
@@ -44,7 +44,7 @@ pub trait Coupling {
         ensures moved { result ≡ not ((layout self.old).panel (knob_of to) == position_of to) }
         ensures own { layout self.new ≡ with_knob (layout self.old) (knob_of to) (position_of to) }
         ensures still { result ≡ false → (self.new ≡ self.old) × (below.new ≡ below.old) }
-        ensures plays { Plays C.Chest.meaning C.Chest.settled (layout self.old) (layout self.new) below.old below.new };
+        ensures follows { Follows C.Chest.meaning C.Chest.settled (layout self.old) (layout self.new) below.old below.new };
 
     ghost sound: { (k : Self) → Sound (layout k) };
 }

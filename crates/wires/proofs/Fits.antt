@@ -1,7 +1,6 @@
 -- The checks of a wire, and a board with one wire more. Assumes nothing.
-use Rattle.std.proofs.Common.{◌≡◌, ℕ, ◌<◌, Bool, true, false, cond, not, ltb, List, [], ◌∷◌, ◌++◌, length, is_ok, Ok, Err, Result, OnOk, OnErr, sym, refl, ap, subst, ◌∙◌, arith}
-use Rattle.std.proofs.lemmas.Bool.{both_ways, lt-ltb}
-use Rattle.std.proofs.lemmas.Bool.Decides.{nat_tests}
+use Rattle.std.proofs.Common.{◌≡◌, ℕ, ◌<◌, Bool, true, false, cond, ltb, List, [], ◌∷◌, ◌++◌, length, is_ok, Ok, Err, Result, OnOk, OnErr, sym, refl, ap, subst, ◌∙◌, arith}
+use Rattle.std.proofs.lemmas.Bool.{lt-ltb}
 use Rattle.chest.specs.Meaning.{Meaning}
 use Rattle.wires.specs.declared.lead.Lead.{Lead}
 use Rattle.fittings.specs.declared.Wire.{Wire}

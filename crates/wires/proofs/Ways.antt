@@ -1,12 +1,12 @@
 -- The number of ways through a wire. Assumes nothing.
-use Rattle.std.specs.Prelude.{◌≡◌, ℕ, ◌+◌, ◌-◌, ◌<◌, ◌≤◌, Bool, true, false, cond, ◌&&◌, ◌≢◌, Some, None, Option, ◌==◌, nat_eq, nat_le, nat_lt, refl}
-use Rattle.std.proofs.Common.{sym, ap, subst, ◌∙◌, arith}
+use Rattle.std.specs.Prelude.{◌≡◌, ℕ, ◌+◌, ◌-◌, ◌<◌, ◌≤◌, Bool, true, false, cond, ◌&&◌, Some, None, Option, ◌==◌, nat_eq, nat_le, nat_lt, refl}
+use Rattle.std.proofs.Common.{sym, ap, ◌∙◌, arith}
 use Rattle.std.specs.Option.{option_map}
-use Rattle.std.proofs.lemmas.Bool.{cond_both, eqb-true}
+use Rattle.std.proofs.lemmas.Bool.{cond_both}
 use Rattle.std.proofs.lemmas.Bool.Decides.{nat_tests}
 use Rattle.chest.specs.Places.{Places, total, put}
 use Rattle.chest.proofs.Totals.{total_ext}
-use Rattle.chest.specs.Meaning.{Panel, knob_to}
+use Rattle.chest.specs.Meaning.{Panel}
 use Rattle.wires.specs.declared.lead.Lead.{Lead}
 use Rattle.coupling.specs.Layout.{Reaches}
 use Rattle.wires.specs.Wires.{live, landing, is_at, leads, way, span, through, outlet, meets}

@@ -1,5 +1,5 @@
 -- Fitting a wire: its checks in their order, and the wire as it is kept. Assumes nothing.
-use Rattle.std.specs.Prelude.{ℕ, ◌+◌, ◌-◌, Bool, cond, not, ◌&&◌, List, [], ◌∷◌, length, ℤ, pos, negsuc, is_ok, Some, None, Ok, Err, Option, Result, ◌==◌, nat_le, nat_lt}
+use Rattle.std.specs.Prelude.{ℕ, ◌+◌, ◌-◌, Bool, cond, ◌&&◌, List, [], ◌∷◌, length, ℤ, pos, negsuc, is_ok, Some, None, Ok, Err, Option, Result, ◌==◌, nat_le, nat_lt}
 use Rattle.chest.specs.declared.fault.ChestFault.TheVariants.{Row}
 use Rattle.chest.specs.Meaning.{Meaning}
 use Rattle.fittings.specs.declared.Wire.{Wire}

@@ -7,7 +7,6 @@ use Rattle.fittings.specs.declared.Wire.{Wire}
 use Rattle.wires.specs.Wired.{with_wire}
 use Rattle.wires.specs.Fitting.{lead_of}
 use Rattle.wires.proofs.Fits.{fitted}
-use Rattle.board.specs.Wiring.{wired}
 use Rattle.board.specs.Relay.{wired_of}
 use Rattle.board.proofs.fitting.fit.Goals as goal
 

@@ -1,5 +1,5 @@
 -- The key is put, and stands below; one that does not move leaves all as it was.
-use Rattle.std.proofs.Common.{not, true, sym, refl, ap, ◌∙◌, subst}
+use Rattle.std.proofs.Common.{not, sym, refl, ap, ◌∙◌, subst}
 use Rattle.std.proofs.lemmas.Bool.{false≢true}
 use Rattle.wires.specs.Wired.{image_with, layout_of, with_key}
 use Rattle.coupling.proofs.Boards.{key_there, put-there, put-unmoved}
@@ -40,7 +40,7 @@ returns-then-moves g c =
     record {
       own = ap layout_of c.put.ensures ∙ sym (put-there l at.row at.place on there.0);
       still = λ no. absurd (false≢true (sym no ∙ moves));
-      plays = counted g.C.Chest.meaning g.C.Chest.settled self.wiring.desk w (with_key w at.row at.place on) (wired c.put.new.self) self.ways.table c.swing_key.new.self.table c.args.below.now c.swing_key.new.below refl refl c.put.ensures self.exact exact c.swing_key.ensures.keeps;
+      follows = counted g.C.Chest.meaning g.C.Chest.settled self.wiring.desk w (with_key w at.row at.place on) (wired c.put.new.self) self.ways.table c.swing_key.new.self.table c.args.below.now c.swing_key.new.below refl refl c.put.ensures self.exact exact c.swing_key.ensures.keeps;
     }
 
 pub returns-else-moves-clause-own : goal.returns-else-moves-clause-own

@@ -1,13 +1,12 @@
 -- The knob turns, and below stands what is then wanted.
-use Rattle.std.proofs.Common.{refl, ap, ◌∙◌, subst}
+use Rattle.std.proofs.Common.{refl}
 use Rattle.wires.specs.Wired.{with_knob}
 use Rattle.board.specs.Wiring.{wired}
-use Rattle.board.specs.Counts.{Exact}
 use Rattle.board.proofs.Standing.{counted}
 use Rattle.board.proofs.relay.RelayCoupling.turn.Goals as goal
 
-pub returns-clause-plays : goal.returns-clause-plays
-returns-clause-plays g c =
+pub returns-clause-follows : goal.returns-clause-follows
+returns-clause-follows g c =
     let self = c.args.self.now in
     let w = wired self.wiring in
     let to = c.args.to in

@@ -5,7 +5,7 @@ use Rattle.std.proofs.lemmas.Iterator.{YieldsList-from_range}
 use Rattle.std.proofs.lemmas.Iterator.Search.{any_from_yields_List}
 use Rattle.sets.specs.NumberSet.{members}
 use Rattle.coupling.specs.Some.{some}
-use Rattle.coupling.specs.KeyDesk.{own, register}
+use Rattle.coupling.specs.KeyDesk.{register}
 use Rattle.coupling.proofs.Some.{some_of_range, some-past}
 use Rattle.coupling.proofs.key_desk.KeyDesk.has_key.Goals as goal
 
