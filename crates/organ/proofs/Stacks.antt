@@ -19,6 +19,7 @@ use Rattle.organ.specs.Assembly.{Hung, bare, hang_all, stop_wired, stop_meaning,
 use Rattle.organ.specs.Pass.{unless_first_refused, fit_run, earlier_of}
 use Rattle.organ.proofs.Passes.{both, passes}
 use Rattle.organ.proofs.Runs.{run_reach}
+use Rattle.organ.specs.Stack.{Stack, StackSettled}
 
 abbrev with_wires : Wired → List Lead → Wired
 with_wires l ws = record { reach = l.reach; below = l.below; wires = ws; panel = l.panel; register = l.register }
@@ -79,20 +80,20 @@ module _ (keys : Reaches) (m : Meaning) (ws : List BookWire) where
 
 -- both boards took their wires and the stack is settled, or just the first refusal
 module _ {C : Type 0} (meaning : C → Meaning) (settled : C → Type 0) where
-  abbrev pub Hangs : Reaches → Meaning → Result Hung Refusal → RelayBoard (RelayBoard C) → Result Unit Refusal → Type 0
+  abbrev pub Hangs : Reaches → Meaning → Result Hung Refusal → Stack C → Result Unit Refusal → Type 0
   Hangs keys m h s (Ok x) = Assembles meaning settled keys m h (Ok s)
   Hangs keys m h s (Err e) = Assembles meaning settled keys m h (Err e)
 
 -- the runs of the boards that assembling makes and fits, from what each of its calls promises
-pub record Runs {C : Type 0} (meaning : C → Meaning) (settled : C → Type 0) (keys : Reaches) (m : Meaning) (ws : List BookWire) (s0 s1 : RelayBoard C) (c0 c1 : RelayBoard (RelayBoard C)) : Type 0 where
+pub record Runs {C : Type 0} (meaning : C → Meaning) (settled : C → Type 0) (keys : Reaches) (m : Meaning) (ws : List BookWire) (s0 s1 : RelayBoard C) (c0 c1 : Stack C) : Type 0 where
   pub stop : (y : Result Wired FirstRefused) → fit_run Stop (meaning s0.below) (wired_of s0.coupling) 0 ws ≡ y → fit_run Stop m (stop_wired keys m []) 0 ws ≡ y
   pub coupler : (x : Result Wired FirstRefused) → fit_run Coupler (meaning_of meaning c0.below) (wired_of c0.coupling) 0 ws ≡ x → fit_run Coupler (stop_meaning keys m []) (coupler_wired keys m []) 0 ws ≡ x
   pub foot : meaning s1.below ≡ with_register m none
   pub low : meaning_of meaning c1.below ≡ with_register (meaning_of meaning s1) none
-  pub steady : Settled (meaning_of meaning) (Settled meaning settled) c1
+  pub steady : StackSettled meaning settled c1
 
-module _ {C : Type 0} {meaning : C → Meaning} {settled : C → Type 0} (keys : Reaches) (m : Meaning) (ws : List BookWire) (reaches : List ℕ) (s0 s1 : RelayBoard C) (c0 c1 : RelayBoard (RelayBoard C)) where
-  pub runs : reach_of reaches ≡ keys → wired_of s0.coupling ≡ bare_wired reaches (meaning s0.below) → meaning s0.below ≡ with_register m none → Settled meaning settled s0 → (wired_of s1.coupling).reach ≡ (wired_of s0.coupling).reach → s1.below ≡ s0.below → (Settled meaning settled s0 → Settled meaning settled s1) → wired_of c0.coupling ≡ bare_wired reaches (meaning_of meaning c0.below) → (Settled meaning settled s1 → Settled meaning settled c0.below × (meaning_of meaning c0.below ≡ with_register (meaning_of meaning s1) none)) → (Settled meaning settled s1 → Settled (meaning_of meaning) (Settled meaning settled) c0) → c1.below ≡ c0.below → (Settled (meaning_of meaning) (Settled meaning settled) c0 → Settled (meaning_of meaning) (Settled meaning settled) c1) → Runs meaning settled keys m ws s0 s1 c0 c1
+module _ {C : Type 0} {meaning : C → Meaning} {settled : C → Type 0} (keys : Reaches) (m : Meaning) (ws : List BookWire) (reaches : List ℕ) (s0 s1 : RelayBoard C) (c0 c1 : Stack C) where
+  pub runs : reach_of reaches ≡ keys → wired_of s0.coupling ≡ bare_wired reaches (meaning s0.below) → meaning s0.below ≡ with_register m none → Settled meaning settled s0 → (wired_of s1.coupling).reach ≡ (wired_of s0.coupling).reach → s1.below ≡ s0.below → (Settled meaning settled s0 → Settled meaning settled s1) → wired_of c0.coupling ≡ bare_wired reaches (meaning_of meaning c0.below) → (Settled meaning settled s1 → Settled meaning settled c0.below × (meaning_of meaning c0.below ≡ with_register (meaning_of meaning s1) none)) → (Settled meaning settled s1 → StackSettled meaning settled c0) → c1.below ≡ c0.below → (StackSettled meaning settled c0 → StackSettled meaning settled c1) → Runs meaning settled keys m ws s0 s1 c0 c1
   runs k items cleared steady reach below steady1 items2 cleared2 steady2 below2 steady3 =
       let lay = stop_new keys m ws reaches (meaning s0.below) (wired_of s0.coupling) k cleared items in
       let s1-steady = steady1 steady in
@@ -126,7 +127,7 @@ module _ {C : Type 0} {meaning : C → Meaning} {settled : C → Type 0} (keys :
       same false = refl
 
 -- the same for equal keys and wires
-pub assembles_as : {C : Type 0} (meaning : C → Meaning) (settled : C → Type 0) (m : Meaning) (keys keys' : Reaches) (ws ws' : List BookWire) (r : Result (RelayBoard (RelayBoard C)) Refusal) → keys ≡ keys' → ws ≡ ws' → Assembles meaning settled keys m (hang_all keys m ws) r → Assembles meaning settled keys' m (hang_all keys' m ws') r
+pub assembles_as : {C : Type 0} (meaning : C → Meaning) (settled : C → Type 0) (m : Meaning) (keys keys' : Reaches) (ws ws' : List BookWire) (r : Result (Stack C) Refusal) → keys ≡ keys' → ws ≡ ws' → Assembles meaning settled keys m (hang_all keys m ws) r → Assembles meaning settled keys' m (hang_all keys' m ws') r
 assembles_as meaning settled m keys keys' ws ws' r k w h =
     subst (λ x. Assembles meaning settled keys' m (hang_all keys' m x) r) w
     (subst (λ x. Assembles meaning settled x m (hang_all x m ws) r) k h)

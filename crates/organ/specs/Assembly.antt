@@ -5,7 +5,7 @@ use Rattle.chest.specs.Meaning.{Meaning}
 use Rattle.book.specs.declared.board.Board.{Board}
 use Rattle.book.specs.declared.board.Board.TheVariants.{Coupler, Stop}
 use Rattle.book.specs.declared.book.BookWire.{BookWire}
-use Rattle.board.specs.Relay.{RelayBoard, wired_of, meaning_of, Settled}
+use Rattle.board.specs.Relay.{wired_of}
 use Rattle.wires.specs.declared.fault.BoardFault.{BoardFault}
 use Rattle.fittings.specs.declared.Wire.{Wire}
 use Rattle.wires.specs.declared.lead.Lead.{Lead}
@@ -14,6 +14,7 @@ use Rattle.wires.specs.Wires.{image}
 use Rattle.wires.specs.Wired.{Wired, wired_meaning}
 use Rattle.wires.specs.Fitting.{fit_answer, lead_of}
 use Rattle.organ.specs.declared.refusal.Refusal.{Refusal}
+use Rattle.organ.specs.Stack.{Stack, stacked, StackSettled}
 
 -- a wire that its board refuses is one fault of a book, whatever the board's own fault is
 abbrev pub refusal_number : Refusal → ℕ
@@ -76,9 +77,9 @@ module _ (keys : Reaches) (m : Meaning) where
 
 module _ {C : Type 0} (meaning : C → Meaning) (settled : C → Type 0) where
   -- the settled stack of all wires, with the coupler board's on top; or just the first refusal
-  abbrev pub Assembles : Reaches → Meaning → Result Hung Refusal → Result (RelayBoard (RelayBoard C)) Refusal → Type 0
+  abbrev pub Assembles : Reaches → Meaning → Result Hung Refusal → Result (Stack C) Refusal → Type 0
   Assembles keys m (Ok h) (Ok s) =
-      Settled (meaning_of meaning) (Settled meaning settled) s × (meaning_of (meaning_of meaning) s ≡ stack_meaning keys m h) × (wired_of s.coupling ≡ coupler_wired keys m h.couplers)
+      StackSettled meaning settled s × (stacked meaning s ≡ stack_meaning keys m h) × (wired_of s.coupling ≡ coupler_wired keys m h.couplers)
   Assembles keys m (Ok h) (Err e) = ⊥
   Assembles keys m (Err e) (Ok s) = ⊥
   Assembles keys m (Err e) (Err f) = f ≡ e

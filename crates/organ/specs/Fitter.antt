@@ -5,13 +5,14 @@ use Rattle.book.specs.declared.board.Board.{Board}
 use Rattle.book.specs.declared.board.Board.TheVariants.{Coupler, Stop}
 use Rattle.book.specs.declared.book.BookWire.{BookWire}
 use Rattle.book.specs.Book.{on_board}
-use Rattle.board.specs.Relay.{RelayBoard, wired_of, meaning_of}
+use Rattle.board.specs.Relay.{wired_of}
 use Rattle.wires.specs.declared.fault.BoardFault.{BoardFault}
 use Rattle.wires.specs.declared.lead.Lead.{Lead}
 use Rattle.coupling.specs.Layout.{Reaches}
 use Rattle.wires.specs.Fitting.{lead_of}
 use Rattle.organ.specs.declared.refusal.Refusal.{Refusal}
 use Rattle.organ.specs.Assembly.{Hung, board_answer, coupler_wired, stack_meaning}
+use Rattle.organ.specs.Stack.{Stack, stacked}
 
 -- those of a list of wires that are for this board, in their order, as it keeps them
 abbrev pub just_its_own : Board → List BookWire → List Lead
@@ -42,6 +43,6 @@ module _ (keys : Reaches) (m : Meaning) where
     pub line : r.line ≡ wire.line
 
   -- a stack is refused for a wire exactly if that is so; else all wires are taken, and each board has just its own
-  pub record FittedInOrder {C : Type 0} (meaning : C → Meaning) (ws : List BookWire) (result : Result (RelayBoard (RelayBoard C)) Refusal) : Type 0 where
+  pub record FittedInOrder {C : Type 0} (meaning : C → Meaning) (ws : List BookWire) (result : Result (Stack C) Refusal) : Type 0 where
     pub refused : (r : Refusal) → (result ≡ Err r) ↔ RefusedFor ws r
-    pub taken : IfOk result (λ stack. AllTaken ws × (meaning_of (meaning_of meaning) stack ≡ stack_meaning keys m (each_its_own ws)) × (wired_of stack.coupling ≡ coupler_wired keys m (just_its_own Coupler ws)))
+    pub taken : IfOk result (λ stack. AllTaken ws × (stacked meaning stack ≡ stack_meaning keys m (each_its_own ws)) × (wired_of stack.coupling ≡ coupler_wired keys m (just_its_own Coupler ws)))

@@ -1,6 +1,7 @@
 pub mod Action
 pub mod Asking
 pub mod Line
+pub mod Stack
 pub mod Assembly
 pub mod Fitter
 pub mod Pass

@@ -4,7 +4,6 @@ use Rattle.chest.specs.Places.{none}
 use Rattle.chest.specs.Meaning.{Meaning}
 use Rattle.book.specs.declared.book.Book.{Book}
 use Rattle.book.specs.Book.{keys_in}
-use Rattle.board.specs.Relay.{RelayBoard, meaning_of, Settled}
 use Rattle.console.specs.declared.console.Console.{Console}
 use Rattle.console.specs.Model.{Setup, Model, first}
 use Rattle.console.specs.Record.{Making}
@@ -12,6 +11,7 @@ use Rattle.console.specs.Tracks.{Tracks}
 use Rattle.organ.specs.declared.refusal.Refusal.{Refusal}
 use Rattle.organ.specs.Assembly.{Hung, stack_meaning}
 use Rattle.organ.specs.Tables.{book_steps, book_home, book_scope}
+use Rattle.organ.specs.Stack.{Stack, stacked, StackSettled}
 
 -- what the model console is given: the divisions, knobs and pistons of the book
 abbrev pub book_setup : Book → Setup
@@ -24,15 +24,15 @@ new_ranks reach =
 
 module _ {C : Type 0} (meaning : C → Meaning) (settled : C → Type 0) where
   abbrev pub Organ : Type 0
-  Organ = Console (RelayBoard (RelayBoard C))
+  Organ = Console (Stack C)
 
   -- what the stack of a console means
   abbrev pub organ_meaning : Organ → Meaning
-  organ_meaning c = meaning_of (meaning_of meaning) c.chest
+  organ_meaning c = stacked meaning c.chest
 
   -- a console that stands as a model
   abbrev pub OrganTracks : Organ → Setup → Model → Type 0
-  OrganTracks = Tracks (meaning_of (meaning_of meaning)) (Settled (meaning_of meaning) (Settled meaning settled))
+  OrganTracks = Tracks (stacked meaning) (StackSettled meaning settled)
 
   -- a making over the stack of the book's wires, after which the console stands as the first model of the book;
   -- or the first wire that its board refuses

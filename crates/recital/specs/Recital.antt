@@ -9,7 +9,6 @@ use Rattle.book.specs.declared.book.Book.{Book}
 use Rattle.book.specs.Book.{pipes_in}
 use Rattle.book.specs.Entry.{Entry}
 use Rattle.book.specs.Reading.{read_of}
-use Rattle.board.specs.Relay.{RelayBoard, meaning_of, Settled}
 use Rattle.bottom.specs.declared.magnet_chest.MagnetChest.{MagnetChest}
 use Rattle.bottom.specs.MagnetChest.{magnet_meaning, MagnetSettled}
 use Rattle.console.specs.declared.console.Console.{Console}
@@ -24,6 +23,7 @@ use Rattle.organ.specs.Opening.{Opens, new_ranks}
 use Rattle.recital.specs.declared.recital.Recital.{Recital}
 use Rattle.recital.specs.Described.{setup_said, hung_said, stack_said, book_hung}
 use Rattle.recital.specs.Listings.{model_after, listing_of}
+use Rattle.organ.specs.Stack.{Stack, stacked, StackSettled}
 
 module _ {C : Type 0} (meaning : C → Meaning) (settled : C → Type 0) where
   -- the message that a byte ends, if it ends one, is answered
@@ -64,13 +64,13 @@ module _ {C : Type 0} (meaning : C → Meaning) (settled : C → Type 0) where
 
 -- coupler board and stop board over a magnet chest: what they mean, and when they are settled
 abbrev pub MagnetStack : Type 0
-MagnetStack = RelayBoard (RelayBoard MagnetChest)
+MagnetStack = Stack MagnetChest
 
 abbrev pub magnet_stack_meaning : MagnetStack → Meaning
-magnet_stack_meaning = meaning_of (meaning_of magnet_meaning)
+magnet_stack_meaning = stacked magnet_meaning
 
 abbrev pub MagnetStackSettled : MagnetStack → Type 0
-MagnetStackSettled = Settled (meaning_of magnet_meaning) (Settled magnet_meaning MagnetSettled)
+MagnetStackSettled = StackSettled magnet_meaning MagnetSettled
 
 -- a recital on the organ of a book's record over a new magnet chest, and no byte of its line is read; or the refusal
 abbrev pub Begins : Book → Result (Recital MagnetStack) Refusal → Type 0
