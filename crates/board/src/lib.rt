@@ -1,7 +1,6 @@
 //! The relay: a coupling that plays the chest below through wires, and counts the ways to each place.
 #![tactic(auto)]
 
-pub mod fitting;
 mod outlets;
 pub mod relay;
 mod swing;

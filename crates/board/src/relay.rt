@@ -11,6 +11,7 @@ use chest::place::Place;
 use chest::setting::Setting;
 use coupling::board::Board;
 use coupling::coupling::Coupling;
+use coupling::fitted::Fitted;
 use coupling::key_desk::KeyDesk;
 use fittings::Wire;
 use wires::fault::BoardFault;
@@ -71,18 +72,31 @@ impl Coupling for Relay {
     }
 }
 
-impl Relay {
-    ghost use Rattle.std.specs.Prelude.{◌≡◌, OnErr, OnOk};
-    ghost use Rattle.wires.specs.Wired.{with_wire};
-    ghost use Rattle.wires.specs.Fitting.{fit_answer, lead_of};
-    ghost use Rattle.board.specs.Relay.{wired_of};
+// A wire is fitted after those that are fitted.
+impl Fitted for Relay {
+    ghost use Rattle.std.specs.Prelude.{◌∷◌, [], ◌++◌};
+    ghost use Rattle.std.proofs.Common.{ap};
+    ghost use Rattle.wires.specs.Wired.{image_with, layout_of};
+    ghost use Rattle.wires.specs.Fitting.{fit_answer as wire_answer, lead_of};
+    ghost use Rattle.wires.proofs.Fits.{fit_free};
+    ghost use Rattle.board.specs.Wiring.{wires};
+    ghost use Rattle.board.specs.Relay.{wired_of, TakesWire};
 
-    // Fits a wire to the relay of a board over this chest, while no key is set.
-    pub(crate) fn fit<C: Chest>(&mut self, below: &C, wire: Wire) -> Result<(), BoardFault>
-        ensures answer { result ≡ fit_answer (wired_of self.old) (C.Chest.meaning below.now) wire }
-        ensures same { OnErr result (self.new ≡ self.old) }
-        ensures items { OnOk result ((wired_of self.new ≡ with_wire (wired_of self.old) (lead_of wire)) × (self.new.ways ≡ self.old.ways)) }
-    {
+    type Offer = Wire;
+
+    type Fault = BoardFault;
+
+    ghost fit_answer = { λ r. wire_answer (wired_of r) };
+
+    ghost fitted_image = { λ r w. image_with (wires r.wiring ++ lead_of w ∷ []) };
+
+    ghost takes = { TakesWire };
+
+    ghost free = { λ r. fit_free (wired_of r) };
+
+    ghost changes = { λ r r2 w taken. ap layout_of taken.0 };
+
+    fn fit<C: Chest>(&mut self, below: &C, offer: Wire) -> Result<(), BoardFault> {
         let wiring = &self.wiring;
         if !wiring.desk.is_free() {
             return Err(BoardFault::Held);
@@ -90,7 +104,7 @@ impl Relay {
         if wiring.leads.is_full() {
             return Err(BoardFault::Full);
         }
-        let lead = Lead::of(wire, &wiring.desk, below)?;
+        let lead = Lead::of(offer, &wiring.desk, below)?;
         self.wiring.add(lead);
         Ok(())
     }

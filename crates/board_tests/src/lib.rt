@@ -1,7 +1,6 @@
 //! Stacks of boards over a magnet chest, and lists of steps to play on them.
 #![tactic(auto)]
 
-use board::fitting::fit;
 use board::relay::RelayBoard;
 use bottom::magnet_chest::MagnetChest;
 use bottom::midi_chest::MidiChest;
@@ -70,14 +69,14 @@ fn stop(shift: i16, knob: u16, position: u16) -> Wire {
 
 // The number of the fault with which a wire is refused.
 fn refused<C: Chest>(board: &mut RelayBoard<C>, wire: Wire) -> Option<u8> {
-    fit(board, wire).map_err(BoardFault::number).err()
+    board.fit(wire).map_err(BoardFault::number).err()
 }
 
 // A board of 61 keys over a chest, with those of the wires that it takes.
 fn single<C: Chest>(bottom: C, wires: &[Wire]) -> RelayBoard<C> {
     let mut board = RelayBoard::new(bottom, row(61));
     for wire in wires {
-        let _ = fit(&mut board, *wire);
+        let _ = board.fit(*wire);
     }
     board
 }
@@ -85,7 +84,7 @@ fn single<C: Chest>(bottom: C, wires: &[Wire]) -> RelayBoard<C> {
 // The same below a board of 61 keys, each of which plays the key below it.
 fn double<C: Chest>(bottom: C, wires: &[Wire]) -> RelayBoard<RelayBoard<C>> {
     let mut top = RelayBoard::new(single(bottom, wires), row(61));
-    let _ = fit(&mut top, stop(0, 64, 0));
+    let _ = top.fit(stop(0, 64, 0));
     top
 }
 

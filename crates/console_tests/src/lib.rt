@@ -1,7 +1,6 @@
 //! Runs of calls on a console, each with the answer that it must give.
 #![tactic(auto)]
 
-use board::fitting::fit;
 use board::relay::RelayBoard;
 use bottom::magnet_chest::MagnetChest;
 use bottom::midi_chest::MidiChest;
@@ -27,7 +26,7 @@ fn first_wrong<C: Chest>(console: &mut Console<C>, run: &[Row]) -> Option<usize>
 // Fits each wire.
 fn fit_all<C: Chest>(board: &mut RelayBoard<C>, wires: &[Wire]) -> Result<(), BoardFault> {
     for wire in wires {
-        fit(board, *wire)?;
+        board.fit(*wire)?;
     }
     Ok(())
 }

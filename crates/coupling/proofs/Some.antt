@@ -6,9 +6,8 @@ use Rattle.std.proofs.Common.{sym, ap, ◌∙◌, ⊎_elim, add-one, arith}
 use Rattle.std.proofs.lemmas.Bool.{cases_eq, or_left, or_right, both_ways}
 use Rattle.std.proofs.lemmas.Bool.Decides.{nat_tests}
 use Rattle.chest.specs.Places.{none}
-use Rattle.coupling.specs.declared.key_desk.KeyDesk.{KeyDesk}
 use Rattle.coupling.specs.Some.{some, is_free}
-use Rattle.coupling.specs.KeyDesk.{own, register}
+use Rattle.coupling.specs.Layout.{Layout, Sound}
 
 pub some_more : (n : ℕ) (f : ℕ → Bool) → some (n + 1) f ≡ (some n f || f n)
 unfolding some
@@ -60,15 +59,16 @@ some_of_range (suc n) f =
       by true = refl
       by false = refl
 
--- a desk that is free holds no key
-pub free_of : (d : KeyDesk) → is_free (register d) ≡ true → (r p : ℕ) → register d r p ≡ false
-free_of d free r p = by (register d r p) refl where
-  by : (b : Bool) → register d r p ≡ b → b ≡ false
+-- where no key is set, as is tested, none is
+pub free_of : (l : Layout) → Sound l → is_free l.register ≡ true → (r p : ℕ) → l.register r p ≡ false
+free_of l sound free r p = by (l.register r p) refl where
+  by : (b : Bool) → l.register r p ≡ b → b ≡ false
   by false e = refl
   by true e =
-      let low : p < own d r = d.held r p e in
-      let most = d.reaches.low r in
+      let low = sound.register r p e in
+      let most = sound.reaches r in
+      let past = sound.rows r in
       let row : r < 16 = grind (arith, nat_tests) in
-      let place : p < 128 = grind (arith, nat_tests) in
-      let found = some-found 16 r (λ x. some 128 (register d x)) row (some-found 128 p (register d r) place e) in
-      absurd (both_ways (is_free (register d)) (ap not found) free)
+      let place : p < 128 = omega (arith, low, most) in
+      let found = some-found 16 r (λ x. some 128 (l.register x)) row (some-found 128 p (l.register r) place e) in
+      absurd (both_ways (is_free l.register) (ap not found) free)

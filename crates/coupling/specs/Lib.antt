@@ -4,3 +4,4 @@ pub mod KeyDesk
 pub mod Board
 pub mod Making
 pub mod Sending
+pub mod Fitting

@@ -2,6 +2,7 @@
 ghost use Rattle.std.specs.Prelude.{◌≡◌};
 
 use crate::coupling::Coupling;
+use crate::fitted::Fitted;
 use crate::key_desk::KeyDesk;
 use chest::chest::{Chest, ROWS};
 use chest::fault::ChestFault;
@@ -12,12 +13,10 @@ use chest::setting::Setting;
 use chest::walks;
 
 /// What is done to keys is the coupling's; all else that a board is stands here, for every coupling over every chest.
-// public fields: fitting is a call of the coupling's own crate, which cannot add one to this type. That a board is settled is
-// no invariant of the type but what each call says it keeps; who writes the fields by hand loses that.
 #[derive(Drop)]
 pub struct Board<K, C> {
-    pub coupling: K,
-    pub below: C,
+    pub(crate) coupling: K,
+    pub(crate) below: C,
 }
 
 impl<K: Coupling, C: Chest> Board<K, C> {
@@ -47,6 +46,23 @@ impl<K: Coupling, C: Chest> Board<K, C> {
         ensures { result.now ≡ self.now.below }
     {
         &self.below
+    }
+}
+
+impl<K: Fitted, C: Chest> Board<K, C> {
+    ghost use Rattle.std.specs.Prelude.{OnErr, OnOk};
+    ghost use Rattle.chest.specs.Meaning.{Becomes};
+    ghost use Rattle.coupling.specs.Board.{meaning_of, Settled};
+    ghost use Rattle.coupling.specs.Fitting.{fit_after};
+
+    /// Fits what is offered, while no key is set.
+    pub fn fit(&mut self, offer: K::Offer) -> Result<(), K::Fault>
+        ensures answer { result ≡ K.Fitted.fit_answer self.old.coupling (C.Chest.meaning self.old.below) offer }
+        ensures same { OnErr result (self.new ≡ self.old) }
+        ensures items { OnOk result ((self.new.below ≡ self.old.below) × K.Fitted.takes self.old.coupling offer self.new.coupling) }
+        ensures after { Becomes (meaning_of K.Coupling.layout C.Chest.meaning) (Settled K.Coupling.layout C.Chest.meaning C.Chest.settled) self.old self.new (fit_after (K.Fitted.fit_answer self.old.coupling (C.Chest.meaning self.old.below) offer) (K.Coupling.layout self.old.coupling) (K.Fitted.fitted_image self.old.coupling offer) (C.Chest.meaning self.old.below)) }
+    {
+        self.coupling.fit(&self.below, offer)
     }
 }
 

@@ -3,4 +3,5 @@
 
 pub mod board;
 pub mod coupling;
+pub mod fitted;
 pub mod key_desk;

@@ -9,7 +9,6 @@ ghost use Rattle.organ.specs.Pass.{fit_run, earlier_of};
 
 use crate::refusal::Refusal;
 use crate::stack::Stack;
-use board::fitting::fit;
 use board::relay::RelayBoard;
 use book::{Board, Book, BookWire};
 use chest::chest::{Chest, ROWS};
@@ -35,7 +34,7 @@ fn fit_all<C: Chest>(
 {
     for (number, wire) in wires.iter().enumerate() {
         if wire.board == on {
-            fit(board, wire.wire).map_err(|fault| FirstRefused {
+            board.fit(wire.wire).map_err(|fault| FirstRefused {
                 number,
                 refusal: Refusal {
                     line: wire.line,

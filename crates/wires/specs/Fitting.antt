@@ -1,5 +1,5 @@
 -- Fitting a wire: its checks in their order, and the wire as it is kept. Assumes nothing.
-use Rattle.std.specs.Prelude.{ℕ, ◌+◌, ◌-◌, Bool, cond, ◌&&◌, List, [], ◌∷◌, length, ℤ, pos, negsuc, is_ok, Some, None, Ok, Err, Option, Result, ◌==◌, nat_le, nat_lt}
+use Rattle.std.specs.Prelude.{ℕ, ◌+◌, ◌-◌, Bool, cond, ◌&&◌, List, [], ◌∷◌, length, ℤ, pos, negsuc, Some, None, Ok, Err, Option, Result, ◌==◌, nat_le, nat_lt}
 use Rattle.chest.specs.declared.fault.ChestFault.TheVariants.{Row}
 use Rattle.chest.specs.Meaning.{Meaning}
 use Rattle.fittings.specs.declared.Wire.{Wire}
@@ -10,7 +10,7 @@ use Rattle.wires.specs.declared.fault.RowRefused.{RowRefused}
 use Rattle.wires.specs.declared.fault.BoardFault.TheVariants.{Held, Full, Keys, ToRow, NoPlaces, Shift, Knob, Position}
 use Rattle.coupling.specs.Some.{is_free}
 use Rattle.coupling.specs.Layout.{Reaches}
-use Rattle.wires.specs.Wired.{Wired, wired_meaning, with_wire}
+use Rattle.wires.specs.Wired.{Wired}
 
 -- the first check that does not pass gives its fault
 abbrev pub checked : {X : Type 0} → List (Bool × BoardFault) → X → Result X BoardFault
@@ -55,8 +55,3 @@ lead_of w =
 abbrev pub to_reach : Reaches → Wire → Result ℕ RowRefused
 to_reach below w =
     cond (nat_lt w.to 16) (Ok (below w.to)) (Err (record { from = w.from; to = w.to; fault = Row w.to }))
-
--- what the board means afterwards: one wire more at the end, or as before
-abbrev pub fit_after : Wired → Meaning → Wire → Meaning
-fit_after l m w =
-    cond (is_ok (fit_answer l m w)) (wired_meaning (with_wire l (lead_of w)) m) (wired_meaning l m)

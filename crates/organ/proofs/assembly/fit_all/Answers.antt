@@ -5,9 +5,8 @@ use Rattle.book.specs.contracts.board.Board.{the_type}
 use Rattle.book.specs.declared.board.Board.{Board}
 use Rattle.book.specs.declared.board.Board.TheVariants.{Coupler, Stop}
 use Rattle.book.specs.Book.{same_board}
-use Rattle.board.specs.Relay.{Settled, wired_of}
-use Rattle.wires.specs.Wired.{with_wire}
-use Rattle.wires.specs.Fitting.{fit_answer, lead_of}
+use Rattle.board.specs.Relay.{TakesWire, Settled, wired_of}
+use Rattle.wires.specs.Fitting.{fit_answer}
 use Rattle.organ.specs.Pass.{fit_run}
 use Rattle.organ.proofs.Runs.{blank, skip_here, fit_here}
 use Rattle.organ.proofs.assembly.fit_all.Goals as goal
@@ -36,8 +35,8 @@ loop-number-preserved g c =
       | then-eq+in_ok-map_err w ↦
           let fine : w.fit.result ≡ Ok tt = search rules in
           let answer = sym fine ∙ w.fit.ensures.answer ∙ (λ j. fit_answer l (meaning (inv.2 j)) here.wire) in
-          let items = subst (λ r. OnOk r ((w.fit.new.board.below ≡ c.loop-number.board.below) × (wired_of w.fit.new.board.coupling ≡ with_wire l (lead_of here.wire)) × (w.fit.new.board.coupling.ways ≡ c.loop-number.board.coupling.ways))) fine w.fit.ensures.items in
-          let added = ap (λ b. wired_of b.coupling) w.board-is ∙ items.1 in (
+          let items = subst (λ r. OnOk r ((w.fit.new.self.below ≡ c.loop-number.board.below) × TakesWire c.loop-number.board.coupling here.wire w.fit.new.self.coupling)) fine w.fit.ensures.items in
+          let added = ap (λ b. wired_of b.coupling) w.board-is ∙ items.1.0 in (
             inv.0 ∙ fit_here on m l ws i c.loop-number-test.true next (is ∙ w.if-eq.true) (sym answer) added,
             ap (λ x. x.reach) added ∙ inv.1,
             ap (λ b. b.below) w.board-is ∙ items.0 ∙ inv.2,
