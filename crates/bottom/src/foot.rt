@@ -1,5 +1,5 @@
 //! What both bottom chests keep: the reaches, the knobs' positions, the pipes and the number of strobes.
-ghost use Rattle.std.specs.Prelude.{◌≡◌, ℕ, ◌^◌, ◌<◌, true, OnErr};
+ghost use Rattle.std.specs.Prelude.{◌≡◌, ℕ, ◌^◌, ◌<◌, true, false, is_ok, OnErr};
 ghost use Rattle.chest.specs.Places.{changed};
 ghost use Rattle.chest.specs.Positions.{positions_of};
 ghost use Rattle.chest.specs.Reaches.{reaches_of};
@@ -8,6 +8,7 @@ ghost use Rattle.bottom.specs.PipeTable.{shown};
 use crate::pipe_table::{BYTES, has, put};
 use chest::chest::{KNOBS, ROWS};
 use chest::fault::ChestFault;
+use chest::place::Place;
 use chest::positions::Positions;
 use chest::reaches::Reaches;
 use chest::setting::Setting;
@@ -81,6 +82,21 @@ impl Foot {
             self.apart += 1;
         }
         Ok(())
+    }
+
+    // The same of a pipe by a place at hand: its row is not asked for, and no fault is answered.
+    pub(crate) fn put(&mut self, pipe: Place, on: bool)
+        ensures same { is_ok (set_answer (foot_meaning self.old) pipe.row pipe.place) ≡ false → self.new ≡ self.old }
+        ensures after { foot_meaning self.new ≡ set_after (foot_meaning self.old) pipe.row pipe.place on }
+    {
+        if self.reaches.has(pipe) && has(&self.pipes.set, pipe) != on {
+            put(&mut self.pipes.set, pipe, on);
+            if has(&self.pipes.speaking, pipe) == on {
+                self.apart -= 1;
+            } else {
+                self.apart += 1;
+            }
+        }
     }
 
     pub(crate) fn turn(&mut self, knob: usize, position: usize) -> Result<(), ChestFault>

@@ -11,6 +11,7 @@ use crate::foot::Foot;
 use crate::pipe_table::BYTES;
 use chest::chest::{Chest, ROWS};
 use chest::fault::ChestFault;
+use chest::place::Place;
 
 /// A chest at the foot of a stack that works magnets.
 #[derive(Drop)]
@@ -62,6 +63,10 @@ impl Chest for MagnetChest {
 
     fn set(&mut self, row: usize, place: usize, on: bool) -> Result<(), ChestFault> {
         self.foot.set(row, place, on)
+    }
+
+    fn put(&mut self, at: Place, on: bool) {
+        self.foot.put(at, on);
     }
 
     fn turn(&mut self, knob: usize, position: usize) -> Result<(), ChestFault> {

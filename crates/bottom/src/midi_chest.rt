@@ -90,7 +90,7 @@ impl Chest for MidiChest {
         ensures sent { NothingSent self.old self.new }
         ensures run { (line : List ℕ) → Run self.old line → Run self.new line }
     {
-        let _ = self.set(at.row, at.place, on);
+        self.foot.put(at, on);
     }
 
     fn turn(&mut self, knob: usize, position: usize) -> Result<(), ChestFault>

@@ -17,7 +17,7 @@ pub(crate) fn has(table: &[u8; BYTES], at: Place) -> bool
     ensures { result ≡ shown table.now at.row at.place }
 {
     let place = at.index();
-    (table[place / BYTE_PLACES] >> (place % BYTE_PLACES)) % 2 == 1
+    table[place / BYTE_PLACES] & (1u8 << (place % BYTE_PLACES)) != 0
 }
 
 // Puts the bit of one place on or off.

@@ -1,5 +1,5 @@
 //! How many places each row has.
-ghost use Rattle.std.specs.Prelude.{◌≡◌, ℕ, ◌<◌, ◌≤◌, min, Ok, Err, MatchResult, slice_index};
+ghost use Rattle.std.specs.Prelude.{◌≡◌, ℕ, ◌<◌, ◌≤◌, min, nat_lt, Ok, Err, MatchResult, slice_index};
 
 use crate::chest::{PLACES, ROWS};
 use crate::fault::ChestFault;
@@ -48,6 +48,13 @@ impl Reaches {
     {
         let reach = self.table.get(row).ok_or(ChestFault::Row { row })?;
         Ok(usize::from(*reach))
+    }
+
+    /// Whether there is such a place.
+    pub fn has(&self, at: Place) -> bool
+        ensures { result ≡ nat_lt at.place (reaches_of self.now at.row) }
+    {
+        at.place < usize::from(self.table[at.row])
     }
 
     /// A place that there is.

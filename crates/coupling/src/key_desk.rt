@@ -117,14 +117,14 @@ impl KeyDesk {
     pub fn moves(&self, at: Place, on: bool) -> bool
         ensures { (image : Image) → result ≡ key_moves (layout_of self.now image) at.row at.place on }
     {
-        at.place < self.reaches.of(at.row) && self.keys[at.row].has(at.place) != on
+        self.reaches.has(at) && self.keys[at.row].has(at.place) != on
     }
 
     /// Puts a key on or off, if there is such a key.
     pub fn put(&mut self, at: Place, on: bool)
         ensures { (image : Image) → layout_of self.new image ≡ key_put (layout_of self.old image) at.row at.place on }
     {
-        if at.place < self.reaches.of(at.row) {
+        if self.reaches.has(at) {
             self.keys[at.row] = self.keys[at.row].with(at.place, on);
         }
     }

@@ -1,6 +1,6 @@
 -- One place of one row is put.
 use Rattle.std.proofs.Common.{◌≡◌, ◌<◌, ℕ, Bool, true, false, cond, ◌&&◌, eqb, get_or, set, sym, ap, ◌∙◌, ⊎_elim, subst}
-use Rattle.std.proofs.lemmas.Bool.{cases_Bool, eqb-true, and_parts}
+use Rattle.std.proofs.lemmas.Bool.{cases_Bool, eqb-true, ltb-true, and_parts}
 use Rattle.std.proofs.lemmas.List.{length-set}
 use Rattle.chest.specs.Reaches.{reaches_of}
 use Rattle.chest.specs.Places.{put}
@@ -33,16 +33,16 @@ pub invariant_of-self : goal.invariant_of-self
 invariant_of-self c =
     let h = c.args.self.now in
     let at = c.args.at in
-    let low : at.place < own h at.row = subst (λ n. at.place < n) c.of.ensures.value c.if-at-of.true in
+    let low : at.place < own h at.row = ltb-true at.place (own h at.row) (sym c.has.ensures ∙ c.if-has.true) in
     record {
       manual = length-set h.keys at.row c.with.result ∙ h.manual;
       held = λ r p is. below h at.row at.place c.args.on low r p (sym (rows h at.row at.place c.args.on c.with.result c.index-self-at.result at.row_in (c.with.ensures.value at.place_in) r p) ∙ is);
     }
 
-pub returns-then-at-of : goal.returns-then-at-of
-returns-then-at-of c = λ image.
+pub returns-then-has : goal.returns-then-has
+returns-then-has c = λ image.
     let h = c.args.self.now in
     let at = c.args.at in
     let l = layout_of h image in
-    let low : at.place < own h at.row = subst (λ n. at.place < n) c.of.ensures.value c.if-at-of.true in
+    let low : at.place < own h at.row = ltb-true at.place (own h at.row) (sym c.has.ensures ∙ c.if-has.true) in
     (λ i. record { reach = l.reach; below = l.below; panel = l.panel; register = λ r p. rows h at.row at.place c.args.on c.with.result c.index-self-at.result at.row_in (c.with.ensures.value at.place_in) r p i; image = image }) ∙ sym (put-there l at.row at.place c.args.on low)
