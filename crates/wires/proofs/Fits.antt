@@ -1,4 +1,4 @@
--- The checks of a wire, and a board with one wire more. Assumes nothing.
+-- The checks of a wire, and that one is taken only while no key is set. Assumes nothing.
 use Rattle.std.proofs.Common.{◌≡◌, ℕ, ◌<◌, Bool, true, false, cond, ltb, List, [], ◌∷◌, length, Ok, Err, Result, refl, ap, ◌∙◌, arith}
 use Rattle.std.proofs.lemmas.Bool.{lt-ltb}
 use Rattle.chest.specs.Meaning.{Meaning}
