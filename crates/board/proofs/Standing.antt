@@ -8,7 +8,7 @@ use Rattle.coupling.specs.declared.key_desk.KeyDesk.{KeyDesk}
 use Rattle.coupling.specs.KeyDesk.{beneath}
 use Rattle.coupling.proofs.Desks.{beneath_most, beneath_row}
 use Rattle.wires.specs.declared.lead.Lead.{Lead}
-use Rattle.coupling.specs.Layout.{Reaches, Follows}
+use Rattle.coupling.specs.Layout.{Reaches, Obeys}
 use Rattle.wires.specs.Wires.{way, ways_to, image}
 use Rattle.wires.specs.Wired.{Wired, layout_of, image_of}
 use Rattle.board.specs.Counts.{at_place, Exact, Moves, one_at}
@@ -85,7 +85,7 @@ standing-image ways d l knows exact = λ i b q. one b q (nat_lt b 16) (nat_lt q 
       grind (arith, nat_tests)
 
 -- where each number was exact, and is, the chest below stands as the relay wants
-pub counted : {C : Type 0} (meaning : C → Meaning) (settled : C → Type 0) (d : KeyDesk) (w v v' : Wired) (x y : List ℕ) (a b : C) → w.below ≡ beneath d → v.below ≡ w.below → v' ≡ v → Exact x w → Exact y v → Keeps meaning settled w.below x a y b → Follows meaning settled (layout_of w) (layout_of v') a b
+pub counted : {C : Type 0} (meaning : C → Meaning) (settled : C → Type 0) (d : KeyDesk) (w v v' : Wired) (x y : List ℕ) (a b : C) → w.below ≡ beneath d → v.below ≡ w.below → v' ≡ v → Exact x w → Exact y v → Keeps meaning settled w.below x a y b → Obeys meaning settled (layout_of w) (layout_of v') a b
 counted meaning settled d w v v' x y a b knows below same was is keeps =
     record {
       stands = λ st s.

@@ -60,5 +60,5 @@ pub record Stands (l : Layout) (m : Meaning) : Type 0 where
   pub register : m.register ≡ l.image m.reach m.panel l.register
 
 -- a chest that stood as one layout wants stands as another one wants, under that one's panel, and nothing else of it changed
-pub record Follows {C : Type 0} (meaning : C → Meaning) (settled : C → Type 0) (l l' : Layout) (before after : C) : Type 0 where
+pub record Obeys {C : Type 0} (meaning : C → Meaning) (settled : C → Type 0) (l l' : Layout) (before after : C) : Type 0 where
   pub stands : Stands l (meaning before) → Becomes meaning settled before after (with_register (meaning before) (l'.image (meaning before).reach l'.panel l'.register))

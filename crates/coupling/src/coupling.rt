@@ -1,7 +1,7 @@
 //! The trait of a coupling: what a board wants below, and how it has the chest below follow.
 ghost use Rattle.std.specs.Prelude.{◌≡◌, ◌==◌, not, false};
 ghost use Rattle.chest.specs.Setting.{knob_of, position_of};
-ghost use Rattle.coupling.specs.Layout.{Image, Layout, Sound, Follows, key_put, key_moves, with_knob};
+ghost use Rattle.coupling.specs.Layout.{Image, Layout, Sound, Obeys, key_put, key_moves, with_knob};
 ghost use Rattle.coupling.specs.KeyDesk.{layout_of};
 
 use crate::key_desk::KeyDesk;
@@ -36,7 +36,7 @@ pub trait Coupling {
     fn put<C: Chest>(&mut self, below: &mut C, at: Place, on: bool)
         ensures own { layout self.new ≡ key_put (layout self.old) at.row at.place on }
         ensures still { key_moves (layout self.old) at.row at.place on ≡ false → (self.new ≡ self.old) × (below.new ≡ below.old) }
-        ensures follows { Follows C.Chest.meaning C.Chest.settled (layout self.old) (layout self.new) below.old below.new };
+        ensures obeys { Obeys C.Chest.meaning C.Chest.settled (layout self.old) (layout self.new) below.old below.new };
 
     /// Turns a knob here, and shows below what is then wanted; answers whether the knob moved. The knob below is the board's
     /// to turn, after that.
@@ -44,7 +44,7 @@ pub trait Coupling {
         ensures moved { result ≡ not ((layout self.old).panel (knob_of to) == position_of to) }
         ensures own { layout self.new ≡ with_knob (layout self.old) (knob_of to) (position_of to) }
         ensures still { result ≡ false → (self.new ≡ self.old) × (below.new ≡ below.old) }
-        ensures follows { Follows C.Chest.meaning C.Chest.settled (layout self.old) (layout self.new) below.old below.new };
+        ensures obeys { Obeys C.Chest.meaning C.Chest.settled (layout self.old) (layout self.new) below.old below.new };
 
     ghost sound: { (k : Self) → Sound (layout k) };
 }

@@ -40,7 +40,7 @@ returns-then-moves g c =
     record {
       own = ap layout_of c.put.ensures ∙ sym (put-there l at.row at.place on there.0);
       still = λ no. absurd (false≢true (sym no ∙ moves));
-      follows = counted g.C.Chest.meaning g.C.Chest.settled self.wiring.desk w (with_key w at.row at.place on) (wired c.put.new.self) self.ways.table c.swing_key.new.self.table c.args.below.now c.swing_key.new.below refl refl c.put.ensures self.exact exact c.swing_key.ensures.keeps;
+      obeys = counted g.C.Chest.meaning g.C.Chest.settled self.wiring.desk w (with_key w at.row at.place on) (wired c.put.new.self) self.ways.table c.swing_key.new.self.table c.args.below.now c.swing_key.new.below refl refl c.put.ensures self.exact exact c.swing_key.ensures.keeps;
     }
 
 pub returns-else-moves-clause-own : goal.returns-else-moves-clause-own

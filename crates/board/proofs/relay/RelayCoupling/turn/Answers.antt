@@ -5,8 +5,8 @@ use Rattle.board.specs.Wiring.{wired}
 use Rattle.board.proofs.Standing.{counted}
 use Rattle.board.proofs.relay.RelayCoupling.turn.Goals as goal
 
-pub returns-clause-follows : goal.returns-clause-follows
-returns-clause-follows g c =
+pub returns-clause-obeys : goal.returns-clause-obeys
+returns-clause-obeys g c =
     let self = c.args.self.now in
     let w = wired self.wiring in
     let to = c.args.to in
