@@ -1,31 +1,19 @@
 -- The chest below as the numbers of ways have it. Assumes nothing.
-use Rattle.std.proofs.Common.{◌≡◌, ℕ, ◌<◌, ◌≤◌, Bool, true, false, nat_lt, List, sym, refl, ap, ◌∙◌, subst, arith}
+use Rattle.std.proofs.Common.{◌≡◌, ℕ, ◌≤◌, Bool, true, false, nat_lt, List, sym, refl, ap, ◌∙◌, arith}
 use Rattle.std.proofs.lemmas.Bool.Decides.{nat_tests}
-use Rattle.chest.specs.Places.{Places, put}
-use Rattle.chest.specs.Meaning.{Meaning, Panel, with_register, set_after}
-use Rattle.chest.proofs.Calls.{set-done}
+use Rattle.chest.specs.Places.{Places}
+use Rattle.chest.specs.Meaning.{Meaning, Panel, with_register}
 use Rattle.coupling.specs.declared.key_desk.KeyDesk.{KeyDesk}
 use Rattle.coupling.specs.KeyDesk.{beneath}
 use Rattle.coupling.proofs.Desks.{beneath_most, beneath_row}
 use Rattle.wires.specs.declared.lead.Lead.{Lead}
 use Rattle.coupling.specs.Layout.{Reaches, Obeys}
 use Rattle.wires.specs.Wires.{way, ways_to, image}
-use Rattle.wires.specs.Wired.{Wired, layout_of, image_of}
-use Rattle.board.specs.Counts.{at_place, Exact, Moves, one_at}
+use Rattle.wires.specs.Wired.{Wired, wired_layout, image_of}
+use Rattle.board.specs.Counts.{Exact}
 use Rattle.board.specs.Ways.{standing, Keeps}
 use Rattle.wires.proofs.Ways.{landing_is}
 use Rattle.wires.proofs.Images.{image-ways, ways_none}
-
--- a place put as its number says, where no other number changed
-pub standing-put : (up : Bool) (before after : List ℕ) (r p : ℕ) (on : Bool) → r < 16 → p < 128 → Moves up before after (one_at r p) → on ≡ nat_lt 0 (at_place after r p) → put (standing before) r p on ≡ standing after
-standing-put up before after r p on hr hp moves is = λ i b q. one b q (nat_lt b 16) (nat_lt q 128) refl refl i where
-  one : (b q : ℕ) (x y : Bool) → nat_lt b 16 ≡ x → nat_lt q 128 ≡ y → put (standing before) r p on b q ≡ standing after b q
-  one b q true true e f =
-      let moved = moves b q (grind (arith, nat_tests)) (grind (arith, nat_tests)) in
-      let there : b ≡ r → q ≡ p → at_place after b q ≡ at_place after r p = λ (g : b ≡ r) (h : q ≡ p). ap (λ n. at_place after n q) g ∙ ap (at_place after r) h in
-      grind (arith, nat_tests)
-  one b q true false e f = grind (arith, nat_tests)
-  one b q false y e f = grind (arith, nat_tests)
 
 module _ {C : Type 0} {meaning : C → Meaning} {settled : C → Type 0} {reach : Reaches} where
   pub keeps_same : (ways : List ℕ) (a : C) → Keeps meaning settled reach ways a ways a
@@ -38,16 +26,6 @@ module _ {C : Type 0} {meaning : C → Meaning} {settled : C → Type 0} {reach 
             let one = k.stands r is s in
             let two = l.stands (ap (λ m. m.reach) one.1 ∙ r) (ap (λ m. m.register) one.1) one.0 in
             (two.0, two.1 ∙ ap (λ m. with_register m (standing z)) one.1);
-      }
-
-  -- the place is put below as its number says
-  pub keeps-put : (up : Bool) (x y : List ℕ) (a b : C) (r p : ℕ) (on : Bool) → r < 16 → p < 128 → p < reach r → Moves up x y (one_at r p) → on ≡ nat_lt 0 (at_place y r p) → (settled a → settled b × (meaning b ≡ set_after (meaning a) r p on)) → Keeps meaning settled reach x a y b
-  keeps-put up x y a b r p on hr hp low moves is set =
-      record {
-        stands = λ reaches register s.
-            let done = set s in
-            let there : p < (meaning a).reach r = subst (λ f. p < f r) (sym reaches) low in
-            (done.0, done.1 ∙ set-done (meaning a) r p on hr there ∙ ap (λ t. with_register (meaning a) (put t r p on)) register ∙ ap (with_register (meaning a)) (standing-put up x y r p on hr hp moves is));
       }
 
 -- no way leads past the reach of a row
@@ -85,7 +63,7 @@ standing-image ways d l knows exact = λ i b q. one b q (nat_lt b 16) (nat_lt q 
       grind (arith, nat_tests)
 
 -- where each number was exact, and is, the chest below stands as the relay wants
-pub counted : {C : Type 0} (meaning : C → Meaning) (settled : C → Type 0) (d : KeyDesk) (w v v' : Wired) (x y : List ℕ) (a b : C) → w.below ≡ beneath d → v.below ≡ w.below → v' ≡ v → Exact x w → Exact y v → Keeps meaning settled w.below x a y b → Obeys meaning settled (layout_of w) (layout_of v') a b
+pub counted : {C : Type 0} (meaning : C → Meaning) (settled : C → Type 0) (d : KeyDesk) (w v v' : Wired) (x y : List ℕ) (a b : C) → w.below ≡ beneath d → v.below ≡ w.below → v' ≡ v → Exact x w → Exact y v → Keeps meaning settled w.below x a y b → Obeys meaning settled (wired_layout w) (wired_layout v') a b
 counted meaning settled d w v v' x y a b knows below same was is keeps =
     record {
       stands = λ st s.

@@ -3,13 +3,13 @@ use Rattle.std.specs.Prelude.{◌≡◌}
 use Rattle.chest.specs.Meaning.{Meaning}
 use Rattle.coupling.specs.declared.board.Board.{Board}
 use Rattle.coupling.specs.Layout.{Layout, Sound}
-use Rattle.coupling.specs.KeyDesk.{desk_sound}
+use Rattle.coupling.proofs.Desks.{desk_sound}
 use Rattle.coupling.specs.Board as board
 use Rattle.fittings.specs.declared.Wire.{Wire}
-use Rattle.wires.specs.Wired.{Wired, image_with, layout_of, with_wire}
+use Rattle.wires.specs.Wired.{Wired, image_with, wired_layout, with_wire}
 use Rattle.wires.specs.Fitting.{lead_of}
-use Rattle.wires.specs.Quiet.{wires_silent}
 use Rattle.board.specs.declared.relay.Relay.{Relay}
+use Rattle.wires.proofs.Images.{wires_silent}
 use Rattle.board.specs.Wiring.{wired, wires}
 
 -- its wires, reaches, keys and positions
@@ -18,7 +18,7 @@ wired_of r = wired r.wiring
 
 -- what it wants below is the image of its wires
 abbrev pub relay_layout : Relay → Layout
-relay_layout r = layout_of (wired_of r)
+relay_layout r = wired_layout (wired_of r)
 
 -- a wire more at the end, and no way more: no key is set
 abbrev pub TakesWire : Relay → Wire → Relay → Type 0

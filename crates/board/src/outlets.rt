@@ -1,9 +1,9 @@
-//! Which wires lead somewhere from a key, so that a board walks no wire that a key does not touch.
+//! Which wires lead somewhere from a key, so that a relay walks no wire that a key does not touch.
 ghost use Rattle.std.specs.Prelude.{◌≡◌, ℕ, ◌<◌, ◌==◌, cond, ◌&&◌, true, length};
 ghost use Rattle.sets.specs.Numbers.{nothing, both};
 ghost use Rattle.sets.specs.NumberSet.{members};
 ghost use Rattle.chest.specs.Reaches.{reaches_of};
-ghost use Rattle.board.specs.Among.{leads_from, lands, waits};
+ghost use Rattle.board.specs.Among.{leads_from, lands};
 
 use chest::chest::{PLACES, ROWS};
 use chest::place::Place;

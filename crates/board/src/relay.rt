@@ -11,13 +11,15 @@ use chest::place::Place;
 use chest::setting::Setting;
 use coupling::board::Board;
 use coupling::coupling::Coupling;
-use coupling::fitted::Fitted;
+use coupling::fittable::Fittable;
 use coupling::key_desk::KeyDesk;
 use fittings::Wire;
 use wires::fault::BoardFault;
 use wires::lead::Lead;
 
-/// Each number of ways is exact: one that wraps or lags behind cannot be made.
+/// A set key leads through each live wire of its row to at most one place below, and each such way is counted. A place below
+/// stands while its number is above 0: the first way puts it on, the last one off. A knob that turns gives or takes all ways of
+/// the wires that wait for it. Each number is exact: one that wraps or lags behind cannot be made.
 #[derive(Drop)]
 pub struct Relay {
     pub(crate) wiring: Wiring,
@@ -36,9 +38,11 @@ impl Coupling for Relay {
 
     ghost layout = { relay_layout };
 
-    ghost blank = { image_with [] };
+    ghost bare_image = { image_with [] };
 
     ghost bare = { λ r. wires r.wiring ≡ [] };
+
+    ghost same_fitted = { λ r r2. wires r2.wiring ≡ wires r.wiring };
 
     ghost sound = { relay_sound };
 
@@ -72,11 +76,11 @@ impl Coupling for Relay {
     }
 }
 
-// A wire is fitted after those that are fitted.
-impl Fitted for Relay {
+// Wires stand in the order of their fitting, and one is taken only while no key is set.
+impl Fittable for Relay {
     ghost use Rattle.std.specs.Prelude.{◌∷◌, [], ◌++◌};
     ghost use Rattle.std.proofs.Common.{ap};
-    ghost use Rattle.wires.specs.Wired.{image_with, layout_of};
+    ghost use Rattle.wires.specs.Wired.{image_with, wired_layout};
     ghost use Rattle.wires.specs.Fitting.{fit_answer as wire_answer, lead_of};
     ghost use Rattle.wires.proofs.Fits.{fit_free};
     ghost use Rattle.board.specs.Wiring.{wires};
@@ -94,7 +98,7 @@ impl Fitted for Relay {
 
     ghost free = { λ r. fit_free (wired_of r) };
 
-    ghost changes = { λ r r2 w taken. ap layout_of taken.0 };
+    ghost changes = { λ r r2 w taken. ap wired_layout taken.0 };
 
     fn fit<C: Chest>(&mut self, below: &C, offer: Wire) -> Result<(), BoardFault> {
         let wiring = &self.wiring;

@@ -1,9 +1,8 @@
-//! Which wires wait for a knob, so that a board walks no wire that a turn does not touch.
+//! Which wires wait for a knob, so that a relay walks no wire that a turn does not touch.
 ghost use Rattle.std.specs.Prelude.{◌≡◌, ℕ, ◌<◌, ◌==◌, cond, ◌&&◌, true, length};
-ghost use Rattle.sets.specs.Numbers.{nothing, both};
+ghost use Rattle.sets.specs.Numbers.{nothing};
 ghost use Rattle.sets.specs.NumberSet.{members};
-ghost use Rattle.chest.specs.Reaches.{reaches_of};
-ghost use Rattle.board.specs.Among.{leads_from, lands, waits};
+ghost use Rattle.board.specs.Among.{waits};
 
 use chest::chest::KNOBS;
 use sets::NumberSet;

@@ -1,6 +1,6 @@
 //! The numbers of ways to the places below: walks over the wires that keep them right, and the chest below with them, where a
 //! key is put or a knob turns.
-ghost use Rattle.std.specs.Prelude.{◌≡◌, ℕ, ◌<◌, not, nat_lt, slice_index};
+ghost use Rattle.std.specs.Prelude.{◌≡◌, ℕ, ◌<◌, not, slice_index};
 ghost use Rattle.chest.specs.Setting.{knob_of, position_of};
 ghost use Rattle.coupling.specs.Layout.{Reaches};
 ghost use Rattle.wires.specs.Wires.{span};

@@ -1,4 +1,4 @@
-//! The wires of a board, and the keys and knobs that drive them.
+//! The wires of a relay, and the keys and knobs that drive them.
 ghost use Rattle.std.specs.Prelude.{◌≡◌, ℕ, ◌<◌, ◌≤◌, ◌&&◌, true, if◌then◌else◌, nat_le, None, IfSome, length, slice_index_or};
 ghost use Rattle.sets.specs.NumberSet.{members};
 ghost use Rattle.coupling.specs.KeyDesk.{beneath as beneath_desk, panel as panel_of_desk};
@@ -18,7 +18,7 @@ use fittings::SHIFTS;
 use sets::NumberSet;
 use wires::lead::Lead;
 
-// How many wires a board takes.
+// How many wires a relay takes.
 pub(crate) const WIRES: usize = 128;
 
 // How many places 16 rows of 128 have: place p of row r has the number 128 × r + p.

@@ -1,4 +1,4 @@
--- A key that is put or does not move, and a board as it is made. Assumes nothing.
+-- Keys that move or stay, and a board as it is made. Assumes nothing.
 use Rattle.std.specs.Prelude.{◌≡◌, ℕ, Bool, true, false, cond, not, ◌&&◌, List, nat_lt, refl}
 use Rattle.std.specs.Bool.{beq}
 use Rattle.std.proofs.Common.{get_or, sym, ap, subst, ◌<◌, ◌∙◌, arith}

@@ -2,7 +2,7 @@
 use Rattle.std.specs.Prelude.{◌≡◌}
 use Rattle.std.proofs.Common.{ap, ◌∙◌}
 use Rattle.chest.specs.Places.{none}
-use Rattle.chest.specs.Meaning.{Meaning, Panel, Bounded}
+use Rattle.chest.specs.Meaning.{Meaning, Panel, Bounded, Becomes}
 use Rattle.coupling.specs.declared.board.Board.{Board}
 use Rattle.coupling.specs.Layout.{Layout, Sound, Stands}
 
@@ -18,6 +18,10 @@ module _ {K C : Type 0} (layout : K → Layout) (meaning : C → Meaning) where
 
   abbrev pub Settled : (C → Type 0) → Board K C → Type 0
   Settled settled s = settled s.below × Stands (layout s.coupling) (meaning s.below)
+
+  -- a board that is settled stays so, and means this then
+  abbrev pub BoardBecomes : (C → Type 0) → Board K C → Board K C → Meaning → Type 0
+  BoardBecomes settled = Becomes meaning_of (Settled settled)
 
 -- an empty register has an empty image, so the rule is silent
 pub board_quiet : (l : Layout) (m : Meaning) (panel : Panel) → Sound l → m.rule panel none ≡ none → (board_meaning l m).rule panel none ≡ none

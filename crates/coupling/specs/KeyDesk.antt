@@ -1,14 +1,12 @@
 -- What a key desk holds. Assumes nothing.
-use Rattle.std.specs.Prelude.{◌≡◌, slice_index_or}
-use Rattle.std.proofs.Common.{arith}
-use Rattle.std.proofs.lemmas.Bool.Decides.{nat_tests}
+use Rattle.std.specs.Prelude.{slice_index_or}
 use Rattle.sets.specs.NumberSet.{members, empty}
-use Rattle.chest.specs.Places.{Places, none}
+use Rattle.chest.specs.Places.{Places}
 use Rattle.chest.specs.Meaning.{Panel}
 use Rattle.chest.specs.Positions.{positions_of}
 use Rattle.chest.specs.Reaches.{reaches_of}
 use Rattle.coupling.specs.declared.key_desk.KeyDesk.{KeyDesk}
-use Rattle.coupling.specs.Layout.{Reaches, Image, Layout, Sound}
+use Rattle.coupling.specs.Layout.{Reaches, Image, Layout}
 
 -- the board's own reaches, and those of the chest below
 abbrev pub own : KeyDesk → Reaches
@@ -28,13 +26,3 @@ panel d = positions_of d.positions
 abbrev pub layout_of : KeyDesk → Image → Layout
 layout_of d image =
     record { reach = own d; below = beneath d; panel = panel d; register = register d; image = image }
-
--- it is sound where the image of no keys is empty
-pub desk_sound : (d : KeyDesk) (image : Image) → ((reach : Reaches) (panel : Panel) → image reach panel none ≡ none) → Sound (layout_of d image)
-desk_sound d image silent =
-    record {
-      reaches = λ r. let low = d.reaches.low r in grind (arith, nat_tests);
-      rows = λ r h. grind (arith, nat_tests);
-      register = d.held;
-      silent = silent;
-    }

@@ -2,7 +2,7 @@
 ghost use Rattle.std.specs.Prelude.{◌≡◌};
 
 use crate::coupling::Coupling;
-use crate::fitted::Fitted;
+use crate::fittable::Fittable;
 use crate::key_desk::KeyDesk;
 use chest::chest::{Chest, ROWS};
 use chest::fault::ChestFault;
@@ -12,7 +12,8 @@ use chest::sender::Sender;
 use chest::setting::Setting;
 use chest::walks;
 
-/// What is done to keys is the coupling's; all else that a board is stands here, for every coupling over every chest.
+/// Its reaches and its register are its own; its pipes are those that the chest below lets speak for the image of its register.
+/// What that image is, is the coupling's; all else that a board is stands here, for every coupling over every chest.
 #[derive(Drop)]
 pub struct Board<K, C> {
     pub(crate) coupling: K,
@@ -22,15 +23,14 @@ pub struct Board<K, C> {
 impl<K: Coupling, C: Chest> Board<K, C> {
     ghost use Rattle.chest.specs.Places.{none};
     ghost use Rattle.chest.specs.Meaning.{Becomes, with_register};
-    ghost use Rattle.coupling.specs.Board.{meaning_of, Settled};
-    ghost use Rattle.coupling.specs.Making.{new_over, new_meaning};
+    ghost use Rattle.coupling.specs.Making.{new_over, Made};
 
     /// A board over a chest whose register it clears, with nothing fitted. A reach above 128 counts as 128.
     pub fn new(mut below: C, reaches: [u8; ROWS]) -> Board<K, C>
-        ensures items { K.Coupling.layout result.coupling ≡ new_over K.Coupling.blank reaches (C.Chest.meaning result.below) }
+        ensures items { K.Coupling.layout result.coupling ≡ new_over K.Coupling.bare_image reaches (C.Chest.meaning result.below) }
         ensures bare { K.Coupling.bare result.coupling }
         ensures cleared { Becomes C.Chest.meaning C.Chest.settled below result.below (with_register (C.Chest.meaning below) none) }
-        ensures after { C.Chest.settled below → Settled K.Coupling.layout C.Chest.meaning C.Chest.settled result × (meaning_of K.Coupling.layout C.Chest.meaning result ≡ new_meaning K.Coupling.blank reaches (C.Chest.meaning below)) }
+        ensures after { Made K.Coupling.layout C.Chest.meaning C.Chest.settled K.Coupling.bare_image reaches below result }
     {
         walks::clear(&mut below);
         let positions = Positions::new(walks::positions(&below));
@@ -49,25 +49,29 @@ impl<K: Coupling, C: Chest> Board<K, C> {
     }
 }
 
-impl<K: Fitted, C: Chest> Board<K, C> {
+impl<K: Fittable, C: Chest> Board<K, C> {
     ghost use Rattle.std.specs.Prelude.{OnErr, OnOk};
-    ghost use Rattle.chest.specs.Meaning.{Becomes};
-    ghost use Rattle.coupling.specs.Board.{meaning_of, Settled};
+    ghost use Rattle.coupling.specs.Board.{BoardBecomes};
     ghost use Rattle.coupling.specs.Fitting.{fit_after};
 
     /// Fits what is offered, while no key is set.
     pub fn fit(&mut self, offer: K::Offer) -> Result<(), K::Fault>
-        ensures answer { result ≡ K.Fitted.fit_answer self.old.coupling (C.Chest.meaning self.old.below) offer }
+        ensures answer { result ≡ K.Fittable.fit_answer self.old.coupling (C.Chest.meaning self.old.below) offer }
         ensures same { OnErr result (self.new ≡ self.old) }
-        ensures items { OnOk result ((self.new.below ≡ self.old.below) × K.Fitted.takes self.old.coupling offer self.new.coupling) }
-        ensures after { Becomes (meaning_of K.Coupling.layout C.Chest.meaning) (Settled K.Coupling.layout C.Chest.meaning C.Chest.settled) self.old self.new (fit_after (K.Fitted.fit_answer self.old.coupling (C.Chest.meaning self.old.below) offer) (K.Coupling.layout self.old.coupling) (K.Fitted.fitted_image self.old.coupling offer) (C.Chest.meaning self.old.below)) }
+        ensures items { OnOk result ((self.new.below ≡ self.old.below) × K.Fittable.takes self.old.coupling offer self.new.coupling) }
+        ensures after { BoardBecomes K.Coupling.layout C.Chest.meaning C.Chest.settled self.old self.new (fit_after (K.Fittable.fit_answer self.old.coupling (C.Chest.meaning self.old.below) offer) (K.Coupling.layout self.old.coupling) (K.Fittable.fitted_image self.old.coupling offer) (C.Chest.meaning self.old.below)) }
     {
         self.coupling.fit(&self.below, offer)
     }
 }
 
+// Beside what every chest promises: what does not move leaves the whole board as it was, and nothing that is fitted changes.
 impl<K: Coupling, C: Chest> Chest for Board<K, C> {
-    ghost use Rattle.coupling.specs.Board.{meaning_of, Settled, board_quiet, board_bounded};
+    ghost use Rattle.std.specs.Prelude.{OnErr, OnOk, is_ok, false};
+    ghost use Rattle.chest.specs.Places.{changed};
+    ghost use Rattle.chest.specs.Meaning.{set_answer, set_after, turn_answer, turn_after, strobe_after};
+    ghost use Rattle.coupling.specs.Layout.{key_moves};
+    ghost use Rattle.coupling.specs.Board.{meaning_of, Settled, BoardBecomes, board_quiet, board_bounded};
 
     ghost meaning = { meaning_of K.Coupling.layout C.Chest.meaning };
 
@@ -85,17 +89,34 @@ impl<K: Coupling, C: Chest> Chest for Board<K, C> {
         self.below.position(knob)
     }
 
-    fn set(&mut self, row: usize, place: usize, on: bool) -> Result<(), ChestFault> {
+    fn set(&mut self, row: usize, place: usize, on: bool) -> Result<(), ChestFault>
+        ensures answer { result ≡ set_answer (meaning_of K.Coupling.layout C.Chest.meaning self.old) row place }
+        ensures same { OnErr result (self.new ≡ self.old) }
+        ensures after { BoardBecomes K.Coupling.layout C.Chest.meaning C.Chest.settled self.old self.new (set_after (meaning_of K.Coupling.layout C.Chest.meaning self.old) row place on) }
+        ensures still { key_moves (K.Coupling.layout self.old.coupling) row place on ≡ false → self.new ≡ self.old }
+        ensures kept { OnOk result (K.Coupling.same_fitted self.old.coupling self.new.coupling) }
+    {
         let at = self.coupling.desk().key(row, place)?;
         self.put(at, on);
         Ok(())
     }
 
-    fn put(&mut self, at: Place, on: bool) {
+    fn put(&mut self, at: Place, on: bool)
+        ensures same { is_ok (set_answer (meaning_of K.Coupling.layout C.Chest.meaning self.old) at.row at.place) ≡ false → self.new ≡ self.old }
+        ensures after { BoardBecomes K.Coupling.layout C.Chest.meaning C.Chest.settled self.old self.new (set_after (meaning_of K.Coupling.layout C.Chest.meaning self.old) at.row at.place on) }
+        ensures still { key_moves (K.Coupling.layout self.old.coupling) at.row at.place on ≡ false → self.new ≡ self.old }
+        ensures kept { K.Coupling.same_fitted self.old.coupling self.new.coupling }
+    {
         self.coupling.put(&mut self.below, at, on);
     }
 
-    fn turn(&mut self, knob: usize, position: usize) -> Result<(), ChestFault> {
+    fn turn(&mut self, knob: usize, position: usize) -> Result<(), ChestFault>
+        ensures answer { result ≡ turn_answer knob position }
+        ensures same { OnErr result (self.new ≡ self.old) }
+        ensures after { BoardBecomes K.Coupling.layout C.Chest.meaning C.Chest.settled self.old self.new (turn_after (meaning_of K.Coupling.layout C.Chest.meaning self.old) knob position) }
+        ensures still { (K.Coupling.layout self.old.coupling).panel knob ≡ position → self.new ≡ self.old }
+        ensures kept { OnOk result (K.Coupling.same_fitted self.old.coupling self.new.coupling) }
+    {
         let to = Setting::new(knob, position)?;
         if self.coupling.turn(&mut self.below, to) {
             let _ = self.below.turn(knob, position);
@@ -103,7 +124,11 @@ impl<K: Coupling, C: Chest> Chest for Board<K, C> {
         Ok(())
     }
 
-    fn strobe(&mut self) -> u32 {
+    fn strobe(&mut self) -> u32
+        ensures answer { result ≡ changed (meaning_of K.Coupling.layout C.Chest.meaning self.old).speaking (meaning_of K.Coupling.layout C.Chest.meaning self.new).speaking }
+        ensures after { BoardBecomes K.Coupling.layout C.Chest.meaning C.Chest.settled self.old self.new (strobe_after (meaning_of K.Coupling.layout C.Chest.meaning self.old)) }
+        ensures coupling { self.new.coupling ≡ self.old.coupling }
+    {
         self.below.strobe()
     }
 }

@@ -3,7 +3,7 @@ ghost use Rattle.std.specs.Prelude.{◌≡◌, ℕ, ◌<◌, true, length, slice
 ghost use Rattle.sets.specs.NumberSet.{members, empty};
 ghost use Rattle.chest.specs.Reaches.{reaches_of};
 
-use chest::chest::{PLACES, ROWS};
+use chest::chest::ROWS;
 use chest::fault::ChestFault;
 use chest::place::Place;
 use chest::positions::Positions;
@@ -11,8 +11,8 @@ use chest::reaches::Reaches;
 use chest::setting::Setting;
 use sets::NumberSet;
 
-/// The board's own reaches and those of the chest below, the keys that are set and the knobs' positions as the chest below
-/// has them. Each set key is below the reach of its row.
+/// The board's own reaches and those of the chest below, the keys that are set and the knobs' positions as the coupling
+/// knows them. Each set key is below the reach of its row.
 #[derive(Drop)]
 pub struct KeyDesk {
     reaches: Reaches,
@@ -26,11 +26,11 @@ pub struct KeyDesk {
 impl KeyDesk {
     ghost use Rattle.std.specs.Prelude.{◌≤◌, Ok, Err, MatchResult};
     ghost use Rattle.chest.specs.Positions.{positions_of};
-    ghost use Rattle.chest.specs.Reaches.{reach_of, reach_in, place_in};
+    ghost use Rattle.chest.specs.Reaches.{reach_in, place_in};
     ghost use Rattle.chest.specs.Setting.{knob_of, position_of};
     ghost use Rattle.coupling.specs.Some.{some, is_free};
     ghost use Rattle.coupling.specs.Layout.{Image, new_layout, key_put, key_moves, with_knob};
-    ghost use Rattle.coupling.specs.KeyDesk.{layout_of, own, beneath, register, panel};
+    ghost use Rattle.coupling.specs.KeyDesk.{layout_of, own, register, panel};
 
     /// No key is set. A reach above 128 counts as 128.
     pub fn new(reaches: [u8; ROWS], below: Reaches, positions: Positions) -> KeyDesk
@@ -73,7 +73,7 @@ impl KeyDesk {
         &self.below
     }
 
-    /// The positions as the chest below has them.
+    /// The knobs' positions.
     pub fn positions(&self) -> &Positions
         ensures { result.now ≡ self.now.positions }
     {

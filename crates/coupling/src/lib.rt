@@ -3,5 +3,5 @@
 
 pub mod board;
 pub mod coupling;
-pub mod fitted;
+pub mod fittable;
 pub mod key_desk;

@@ -1,5 +1,5 @@
 -- The image of a register: it holds the places to which the number of ways is above 0. Assumes nothing.
-use Rattle.std.specs.Prelude.{◌≡◌, ℕ, ◌+◌, Bool, true, false, cond, ◌&&◌, ◌||◌, ltb, List, [], ◌∷◌, ◌++◌, nat_lt, refl}
+use Rattle.std.specs.Prelude.{◌≡◌, ℕ, zero, suc, ◌+◌, Bool, true, false, cond, ◌&&◌, ◌||◌, ltb, List, [], ◌∷◌, ◌++◌, nat_lt, refl}
 use Rattle.std.proofs.Common.{sym, ap, ◌∙◌, arith}
 use Rattle.std.proofs.lemmas.List.Sums.{sum_by-cons, sum_by_push}
 use Rattle.std.proofs.lemmas.Bool.Decides.{nat_tests}
@@ -10,7 +10,7 @@ use Rattle.wires.specs.declared.lead.Lead.{Lead}
 use Rattle.coupling.specs.Some.{some}
 use Rattle.coupling.specs.Layout.{Reaches}
 use Rattle.wires.specs.Wires.{live, way, some_wire, image, span, through, ways_to}
-use Rattle.wires.specs.Quiet.{image_of_free}
+use Rattle.wires.specs.Wired.{image_with}
 use Rattle.wires.proofs.Sums.{some-total}
 
 either-above : (x y : Bool) (m n : ℕ) → x ≡ nat_lt 0 m → y ≡ nat_lt 0 n → (x || y) ≡ nat_lt 0 (m + n)
@@ -56,5 +56,20 @@ pub ways_free : (reach : Reaches) (ws : List Lead) (panel : Panel) (s : Places) 
 ways_free reach ws panel s b q free = ways_none reach ws panel s b q (no-way reach s b q free)
 
 -- the image of no keys is empty
-pub image-free : (reach : Reaches) (ws : List Lead) (panel : Panel) (s : Places) → ((r p : ℕ) → s r p ≡ false) → image reach ws panel s ≡ none
-image-free reach ws panel s free = λ i b q. image_of_free reach ws panel s free b q i
+never : (n : ℕ) (f : ℕ → Bool) → ((k : ℕ) → f k ≡ false) → some n f ≡ false
+unfolding some
+never zero f e = refl
+never (suc n) f e = ap (λ x. x || f n) (never n f e) ∙ e n
+
+image_of_none : (reach : Reaches) (ws : List Lead) (panel : Panel) (b q : ℕ) → image reach ws panel none b q ≡ false
+unfolding image some_wire
+image_of_none reach [] panel b q = refl
+image_of_none reach (w ∷ ws) panel b q =
+    by (live panel w) _ _ (never (w.highest + 1) (way reach none w b q) (λ k. refl)) (image_of_none reach ws panel b q)
+  where
+    by : (c x y : Bool) → x ≡ false → y ≡ false → (c && x || y) ≡ false
+    by true x y e f = ap (λ z. z || y) e ∙ f
+    by false x y e f = f
+
+pub wires_silent : (ws : List Lead) (reach : Reaches) (panel : Panel) → image_with ws reach panel none ≡ none
+wires_silent ws reach panel = λ i b q. image_of_none reach ws panel b q i

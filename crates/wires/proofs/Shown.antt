@@ -4,7 +4,7 @@ use Rattle.std.specs.List.{HoldsAt}
 use Rattle.std.proofs.lemmas.Int.{ints}
 use Rattle.std.proofs.lemmas.Bool.{and_parts, and_from, or_cases, leb-true, le-leb, eqb-true, eq-eqb, ltb-true, lt-ltb}
 use Rattle.std.proofs.lemmas.Bool.Decides.{nat_tests, Decides-by_or}
-use Rattle.chest.specs.Places.{Places, none}
+use Rattle.chest.specs.Places.{Places}
 use Rattle.chest.specs.Meaning.{Panel}
 use Rattle.wires.specs.declared.lead.Lead.{Lead}
 use Rattle.wires.specs.declared.lead.Wait.{Wait}
@@ -16,7 +16,7 @@ use Rattle.wires.specs.Fitting.{in_range, raised}
 use Rattle.wires.specs.Laws.{Reached, either, ImageLaw}
 use Rattle.wires.proofs.Sums.{sum-le}
 use Rattle.wires.proofs.Ways.{landing_is, through-one}
-use Rattle.wires.proofs.Images.{image-ways, image-free}
+use Rattle.wires.proofs.Images.{image-ways, wires_silent}
 
 -- a number that passes
 some-tells : (n : ℕ) (f : ℕ → Bool) → some n f ≡ true → (k : ℕ) × (k < n) × (f k ≡ true)
@@ -151,7 +151,7 @@ image-law =
     record {
       exact = image-exact;
       shift = λ w e. shift_kept w.shift e;
-      silent = λ reach ws panel. image-free reach ws panel none (λ r p. refl);
+      silent = λ reach ws panel. wires_silent ws reach panel;
       keys = keys_joined;
       grows = grown;
       wires = wires-joined;

@@ -3,4 +3,3 @@ pub mod Wires
 pub mod Wired
 pub mod Fitting
 pub mod Laws
-pub mod Quiet

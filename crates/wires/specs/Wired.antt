@@ -22,13 +22,13 @@ abbrev pub image_with : List Lead → Image
 image_with ws reach panel s = image reach ws panel s
 
 -- its layout as a coupling
-abbrev pub layout_of : Wired → Layout
-layout_of w =
+abbrev pub wired_layout : Wired → Layout
+wired_layout w =
     record { reach = w.reach; below = w.below; panel = w.panel; register = w.register; image = image_with w.wires }
 
 -- what the board means over what the chest below means
 abbrev pub wired_meaning : Wired → Meaning → Meaning
-wired_meaning w m = board_meaning (layout_of w) m
+wired_meaning w m = board_meaning (wired_layout w) m
 
 -- a board as it is made over a chest, and what it means: these reaches, no wire and no key
 abbrev pub bare_wired : List ℕ → Meaning → Wired

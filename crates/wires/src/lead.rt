@@ -15,8 +15,8 @@ use chest::reaches::Reaches;
 use coupling::key_desk::KeyDesk;
 use fittings::{SHIFTS, Wire};
 
-/// The knob of an offered wire that is always live: a book writes a number there, and what it means is the board's to say.
-pub const ALWAYS: u16 = 64;
+// The knob of an offered wire that is always live: a book writes a number there, and what it means is the board's to say.
+const ALWAYS: u16 = 64;
 
 /// The knob that a wire waits for, and the position at which it is live. Not the chest's `Setting`, whose type says that
 /// there is such a position: the definitions write this one down for any wire that is offered.

@@ -1,7 +1,7 @@
 -- The key is put, and stands below; one that does not move leaves all as it was.
 use Rattle.std.proofs.Common.{not, sym, refl, ap, ◌∙◌, subst}
 use Rattle.std.proofs.lemmas.Bool.{false≢true}
-use Rattle.wires.specs.Wired.{image_with, layout_of, with_key}
+use Rattle.wires.specs.Wired.{image_with, wired_layout, with_key}
 use Rattle.coupling.proofs.Boards.{key_there, put-there, put-unmoved}
 use Rattle.board.specs.Wiring.{wired, wires}
 use Rattle.board.specs.Relay.{relay_layout}
@@ -38,8 +38,9 @@ returns-then-moves g c =
     let there = key_there l at.row at.place on moves in
     let exact = subst (λ on. Exact c.swing_key.new.self.table (with_key w at.row at.place on)) c.from.ensures c.swing_key.ensures.exact in
     record {
-      own = ap layout_of c.put.ensures ∙ sym (put-there l at.row at.place on there.0);
+      own = ap wired_layout c.put.ensures ∙ sym (put-there l at.row at.place on there.0);
       still = λ no. absurd (false≢true (sym no ∙ moves));
+      kept = ap (λ v. v.wires) c.put.ensures;
       obeys = counted g.C.Chest.meaning g.C.Chest.settled self.wiring.desk w (with_key w at.row at.place on) (wired c.put.new.self) self.ways.table c.swing_key.new.self.table c.args.below.now c.swing_key.new.below refl refl c.put.ensures self.exact exact c.swing_key.ensures.keeps;
     }
 

@@ -19,5 +19,5 @@ returns-clause-after g c = λ settled.
     let m = g.C.Chest.meaning old.below in
     let k = old.coupling in
     let k' = c.fit.new.self in
-    let done = fitted_board (layout k) (layout k') (g.K.Fitted.fitted_image k c.args.offer) m c.fit.result (g.K.Fitted.fit_answer k m c.args.offer) (g.met.K.Coupling.sound k) (g.met.K.Coupling.sound k') c.fit.ensures.answer (g.met.K.Fitted.free k m c.args.offer) (refused layout c.fit.result k k' c.fit.ensures.same) (taken c.fit.result _ _ (g.met.K.Fitted.changes k k' c.args.offer) c.fit.ensures.items) settled.1 in
+    let done = fitted_board (layout k) (layout k') (g.K.Fittable.fitted_image k c.args.offer) m c.fit.result (g.K.Fittable.fit_answer k m c.args.offer) (g.met.K.Coupling.sound k) (g.met.K.Coupling.sound k') c.fit.ensures.answer (g.met.K.Fittable.free k m c.args.offer) (refused layout c.fit.result k k' c.fit.ensures.same) (taken c.fit.result _ _ (g.met.K.Fittable.changes k k' c.args.offer) c.fit.ensures.items) settled.1 in
     ((settled.0, done.0), done.1)

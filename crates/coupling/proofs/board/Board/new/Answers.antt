@@ -9,11 +9,11 @@ use Rattle.coupling.proofs.board.Board.new.Goals as goal
 
 pub returns : goal.returns
 returns g c =
-    let blank = g.K.Coupling.blank in
+    let bare_image = g.K.Coupling.bare_image in
     let m = g.C.Chest.meaning c.clear.new.chest in
     let reach = c.reaches.ensures in
     let panel = c.new-positions.ensures ∙ positions_held m c.positions.result (g.met.C.Chest.bounded c.clear.new.chest) c.positions.ensures.value in
-    let lay : g.K.Coupling.layout c.over.result ≡ new_over blank c.args.reaches m = c.over.ensures.value ∙ c.new-desk.ensures blank ∙ (λ i. new_layout blank c.args.reaches (reach i) (panel i)) in
+    let lay : g.K.Coupling.layout c.over.result ≡ new_over bare_image c.args.reaches m = c.over.ensures.value ∙ c.new-desk.ensures bare_image ∙ (λ i. new_layout bare_image c.args.reaches (reach i) (panel i)) in
     let silent = subst (λ x. (reach : Reaches) (panel : Panel) → x.image reach panel none ≡ none) c.over.ensures.value (g.met.K.Coupling.sound c.over.result).silent in
     record {
       items = lay;
@@ -21,6 +21,6 @@ returns g c =
       cleared = c.clear.ensures;
       after = λ settled.
           let below = c.clear.ensures settled in
-          let made = new-board blank silent (g.K.Coupling.layout c.over.result) (g.C.Chest.meaning c.args.below) m c.args.reaches lay below.1 in
+          let made = new-board bare_image silent (g.K.Coupling.layout c.over.result) (g.C.Chest.meaning c.args.below) m c.args.reaches lay below.1 in
           ((below.0, made.0), made.1);
     }

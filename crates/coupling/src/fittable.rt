@@ -8,7 +8,7 @@ use crate::coupling::Coupling;
 use chest::chest::Chest;
 
 /// A coupling is fitted while no key is set, so that nothing is to be shown below.
-pub trait Fitted: Coupling {
+pub trait Fittable: Coupling {
     /// What is offered, as a book writes it.
     type Offer;
 

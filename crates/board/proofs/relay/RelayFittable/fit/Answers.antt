@@ -5,7 +5,7 @@ use Rattle.wires.proofs.Images.{ways_push_free}
 use Rattle.board.specs.Wiring.{wired}
 use Rattle.board.specs.Relay.{relay_layout, relay_sound}
 use Rattle.board.specs.Counts.{Exact}
-use Rattle.board.proofs.relay.RelayFitted.fit.Goals as goal
+use Rattle.board.proofs.relay.RelayFittable.fit.Goals as goal
 
 pub invariant_of-self : goal.invariant_of-self
 invariant_of-self g c =
