@@ -3,3 +3,4 @@ pub mod Counts
 pub mod Calls
 pub mod Walking
 pub mod Arrays
+pub mod CallLemmas

@@ -4,4 +4,5 @@ pub mod Reaches
 pub mod Positions
 pub mod Setting
 pub mod Meaning
+pub mod Calls
 pub mod Walks
