@@ -13,13 +13,13 @@ use Rattle.midi.specs.Reading.{reading, ReadsAs}
 use Rattle.midi.specs.State.{long_message, running, data_step, step, handed, state_after}
 use Rattle.midi.proofs.Lines.{reading-append}
 
-step-status : (s : State) (b : ℕ) → 0x80 ≤ b → b < 0xf8 → step s b ≡ (None, running b)
+pub step-status : (s : State) (b : ℕ) → 0x80 ≤ b → b < 0xf8 → step s b ≡ (None, running b)
 step-status s b h k = grind (arith, nat_tests)
 
-step-data : (s : State) (b : ℕ) → b < 0x80 → step s b ≡ data_step s b
+pub step-data : (s : State) (b : ℕ) → b < 0x80 → step s b ≡ data_step s b
 step-data s b h = grind (arith, nat_tests)
 
-next : (s : State) (b : ℕ) (bs : List ℕ) (p : Option Message × State) → step s b ≡ p → handed s (b ∷ bs) ≡ option_to_list p.0 ++ handed p.1 bs
+pub next : (s : State) (b : ℕ) (bs : List ℕ) (p : Option Message × State) → step s b ≡ p → handed s (b ∷ bs) ≡ option_to_list p.0 ++ handed p.1 bs
 next s b bs p e = ap (λ (q : Option Message × State). option_to_list q.0 ++ handed q.1 bs) e
 
 -- from any state, a status byte and its two data bytes hand out their message

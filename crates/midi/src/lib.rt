@@ -6,6 +6,6 @@ mod message;
 mod reader;
 mod state;
 
-pub use laws::notes_law;
+pub use laws::{notes_law, reading_law};
 pub use message::Message;
 pub use reader::Reader;
