@@ -94,7 +94,7 @@ module _ (b c : Book) (text : List ℕ) (rest next l : Passage) (r : Reading b t
   bad_line f h = one_line ∙ ap (λ x. and_then x (λ fs. lines_from fs next.line (cut next.text.now))) (refused f c _ h)
 
 -- a book that is not too long is its lines
-whole : (text : List ℕ) → length text ≤ most_bytes → lines_from [] 1 (cut text) ≡ read_of text
+pub whole : (text : List ℕ) → length text ≤ most_bytes → lines_from [] 1 (cut text) ≡ read_of text
 whole text few = sym (cond-false _ _ _ (le-ltb most_bytes (length text) few))
 
 pub bad_book : (text : List ℕ) (f : BookFault) → length text ≤ most_bytes → lines_from [] 1 (cut text) ≡ Err f → Answers (Err f) (read_of text)

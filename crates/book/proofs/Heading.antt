@@ -61,7 +61,7 @@ spelling-word head.Knob = (omega arith, (refl, (refl, (refl, (refl, tt)))))
 spelling-word head.Piston = (omega arith, (refl, (refl, (refl, (refl, (refl, (refl, tt)))))))
 spelling-word head.Wire = (omega arith, (refl, (refl, (refl, (refl, tt)))))
 
-numbers_count : (f : Form) → length (numbers_in f) ≡ takes (head_in f)
+pub numbers_count : (f : Form) → length (numbers_in f) ≡ takes (head_in f)
 numbers_count (form.Keys row reach) = refl
 numbers_count (form.Rank row reach) = refl
 numbers_count (form.Knob knob steps home) = refl

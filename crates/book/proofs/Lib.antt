@@ -14,3 +14,11 @@ pub mod Counting
 pub mod Cutting
 pub mod Digital
 pub mod Outside
+pub mod ByteLimits
+pub mod Cases
+pub mod WireLimits
+pub mod FormLaws
+pub mod BookCases
+pub mod LineByLine
+pub mod BookAnswers
+mod WireLines

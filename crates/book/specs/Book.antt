@@ -1,5 +1,6 @@
 -- What a book's record answers. Assumes nothing.
-use Rattle.std.specs.Prelude.{ℕ, Bool, true, false, cond, List, None, Option, nat_lt}
+use Rattle.std.specs.Prelude.{ℕ, ◌<◌, Bool, true, false, cond, List, [], ◌∷◌, None, Option, nat_lt}
+use Rattle.std.specs.List.{AllByRecursion}
 use Rattle.std.specs.Option.{unwrap_or}
 use Rattle.book.specs.declared.board.Board.{Board}
 use Rattle.book.specs.declared.board.Board.TheVariants.{Coupler, Stop}
@@ -29,6 +30,11 @@ scope_in b p = cond (nat_lt p pistons) (place_at b.pistons p) None
 -- the wires in their order
 abbrev pub wires_in : Book → List BookWire
 wires_in b = b.wires.items
+
+-- each of these wires stands on an earlier line of the book than those after it
+abbrev pub LinesRise : List BookWire → Type 0
+LinesRise [] = Unit {0}
+LinesRise (w ∷ ws) = AllByRecursion (λ v. w.line < v.line) ws × LinesRise ws
 
 abbrev pub same_board : Board → Board → Bool
 same_board Coupler Coupler = true

@@ -14,3 +14,15 @@ pub mod Sentences
 pub mod Shapes
 pub mod Tables
 pub mod Token
+pub mod BookAnswers
+pub mod BookCases
+pub mod ByteLimits
+pub mod Cases
+pub mod FaultCases
+pub mod FormCases
+pub mod FormLaws
+pub mod LineByLine
+pub mod NumberCases
+pub mod RangeCases
+pub mod RepeatCases
+pub mod WireLimits

@@ -35,8 +35,10 @@ pub struct Book {
 }
 
 impl Book {
-    ghost use Rattle.std.specs.Prelude.{◌≡◌, ◌<◌, true, not, is_ok, IfSome, List, [], ◌∷◌, ◌++◌, count_by};
-    ghost use Rattle.book.specs.Book.{keys_in, knob_in, on_board, pipes_in, scope_in, wires_in};
+    ghost use Rattle.std.specs.Prelude.{◌≡◌, ◌<◌, true, not, is_ok, IfOk, IfSome, List, [], ◌∷◌, ◌++◌, count_by};
+    ghost use Rattle.book.specs.BookAnswers.{Entered};
+    ghost use Rattle.book.specs.BookCases.{Sampled};
+    ghost use Rattle.book.specs.Book.{LinesRise, keys_in, knob_in, on_board, pipes_in, scope_in, wires_in};
     ghost use Rattle.book.specs.Entry.{Entry, Holds, InRange, taken};
     ghost use Rattle.book.specs.Grammar.{Accepts, Judged};
     ghost use Rattle.book.specs.Reading.{Answers, Fills, read_of, with_line};
@@ -103,6 +105,9 @@ impl Book {
         ensures answer { Answers result (read_of text.now) }
         ensures judged { Judged result text.now }
         ensures accepts { Accepts result text.now }
+        ensures entries { Entered result text.now }
+        ensures sample { Sampled result text.now }
+        ensures lines { IfOk result (λ b. LinesRise (wires_in b)) }
     {
         if text.len() > MOST_BYTES {
             return Err(BookFault::TooLong);
