@@ -19,7 +19,7 @@ use Rattle.wires.proofs.Ways.{landing_is, through-one}
 use Rattle.wires.proofs.Images.{image-ways, wires_silent}
 
 -- a number that passes
-some-tells : (n : ℕ) (f : ℕ → Bool) → some n f ≡ true → (k : ℕ) × (k < n) × (f k ≡ true)
+pub some-tells : (n : ℕ) (f : ℕ → Bool) → some n f ≡ true → (k : ℕ) × (k < n) × (f k ≡ true)
 unfolding some
 some-tells zero f h = absurd (let z : ◌≡◌ {A = ℕ} 0 1 = cc in omega arith)
 some-tells (suc n) f h =

@@ -1,11 +1,13 @@
 //! A wire as a board keeps it.
-ghost use Rattle.std.specs.Prelude.{◌≡◌, ◌<◌, ◌&&◌, if◌then◌else◌, nat_le, None, IfSome};
+ghost use Rattle.std.specs.Prelude.{◌≡◌, ◌<◌, ◌&&◌, if◌then◌else◌, nat_le, None, IfSome, IfOk};
 ghost use Rattle.std.specs.Option.{option_map};
 ghost use Rattle.chest.specs.Positions.{positions_of};
 ghost use Rattle.chest.specs.Reaches.{reaches_of};
 ghost use Rattle.coupling.specs.KeyDesk.{own};
 ghost use Rattle.wires.specs.Fitting.{setting_of, checked, wire_checks, lead_of, to_reach};
 ghost use Rattle.wires.specs.Wires.{landing, live};
+ghost use Rattle.wires.specs.Offered.{LeadsAlike};
+ghost use Rattle.wires.specs.FirstFault.{WireAnswered};
 
 use crate::fault::{BoardFault, RowRefused};
 use chest::chest::{Chest, POSITIONS};
@@ -71,7 +73,9 @@ impl Lead {
 
     /// The wire as a board with this key desk keeps it over this chest, or why it takes none such.
     pub fn of<C: Chest>(wire: Wire, desk: &KeyDesk, below: &C) -> Result<Lead, BoardFault>
-        ensures { result ≡ checked (wire_checks (own desk.now) (C.Chest.meaning below.now).reach wire) (lead_of wire) }
+        ensures answer { result ≡ checked (wire_checks (own desk.now) (C.Chest.meaning below.now).reach wire) (lead_of wire) }
+        ensures law { WireAnswered (own desk.now) (C.Chest.meaning below.now).reach wire result }
+        ensures leads { IfOk result (λ lead. LeadsAlike lead wire) }
     {
         let Wire { from, to, knob, .. } = wire;
         let reach = desk.own_reach(usize::from(from));
