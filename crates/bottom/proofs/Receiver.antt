@@ -15,7 +15,7 @@ use Rattle.bottom.specs.Receiver.{hears, heard, notes_after, Nearer, Towards, Dr
 use Rattle.bottom.proofs.CatchUpLemmas.{ahead}
 use Rattle.bottom.proofs.Pending.{Turn, still, full, next, turn, written_none, agreed-push, length-spelled}
 
-heard-append : (notes : Places) (ms ns : List Message) → heard notes (ms ++ ns) ≡ heard (heard notes ms) ns
+pub heard-append : (notes : Places) (ms ns : List Message) → heard notes (ms ++ ns) ≡ heard (heard notes ms) ns
 heard-append notes [] ns = refl
 heard-append notes (m ∷ ms) ns = heard-append (hears notes m) ms ns
 

@@ -1,5 +1,5 @@
 -- The receiver's law: at one drain of a chest, and over any run. Assumes nothing.
-use Rattle.std.proofs.Common.{◌≡◌, ℕ, List, ◌++◌, length, take, drop, sym, ap, ◌∙◌, subst, arith}
+use Rattle.std.proofs.Common.{◌≡◌, ℕ, ◌≤◌, List, ◌++◌, length, take, drop, sym, ap, ◌∙◌, subst, arith, length-take-le, take-append-drop}
 use Rattle.std.proofs.lemmas.Bool.Decides.{nat_tests}
 use Rattle.chest.specs.Places.{Places}
 use Rattle.bottom.specs.declared.midi_chest.MidiChest.{MidiChest}
@@ -10,7 +10,9 @@ use Rattle.bottom.specs.PipeTable.{shown}
 use Rattle.bottom.specs.MidiChest.{midi_meaning, midi_sent, midi_drained}
 use Rattle.bottom.specs.Receiver.{notes_after, DrainLaw}
 use Rattle.bottom.specs.Run.{Run, makes, sets, turns, strobes, drains, ReceiverLaw}
+use Rattle.bottom.specs.Notes.{NotesSent}
 use Rattle.bottom.proofs.Receiver.{Inside, same_flags, drained-law}
+use Rattle.bottom.proofs.Notes.{notes-sent}
 
 shown-inside : (xs : List ℕ) → Inside (shown xs)
 shown-inside xs r p out = grind (arith, nat_tests)
@@ -44,3 +46,16 @@ module _ (c : MidiChest) (sent : Places) (buffer out : List ℕ) (written : ℕ)
   pub drain_runs : (d : MidiChest) → midi_sent d ≡ sent → d.foot ≡ c.foot → (line : List ℕ) → Run c line → Run d (line ++ take written out)
   drain_runs d told same line run =
       subst (λ l. Run d (line ++ l)) (sym done.bytes) (drains (length buffer) run (ap foot_meaning same) (told ∙ done.sent))
+
+  pub drain_notes : written ≤ length out → NotesSent (midi_meaning c).speaking (midi_sent c) sent buffer out written
+  drain_notes fits =
+      notes-sent (midi_sent c) (midi_meaning c).speaking (shown-inside c.sent) (shown-inside c.foot.pipes.speaking) buffer sent out written done.sent count items
+    where
+      long : length (take written out) ≡ written
+      long = length-take-le written out fits
+
+      count : written ≡ length (midi_drained c (length buffer)).bytes
+      count = sym long ∙ ap length done.bytes
+
+      items : out ≡ (midi_drained c (length buffer)).bytes ++ drop written buffer
+      items = sym (take-append-drop written out) ∙ (λ i. done.bytes i ++ (done.untouched ∙ ap (λ n. drop n buffer) long) i)

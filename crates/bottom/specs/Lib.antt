@@ -1,10 +1,14 @@
 pub mod PipeTable
 pub mod BufferFault
+pub mod BufferNumber
 pub mod Foot
 pub mod MagnetChest
 pub mod Drain
 pub mod MidiChest
+pub mod NewBottom
 pub mod Receiver
+pub mod HeardNotes
+pub mod Notes
 pub mod Run
 pub mod Sending
 pub mod CatchUp

@@ -1,6 +1,7 @@
 //! The magnet chest: its speaking pipes are bits that a host copies to the magnets' drivers.
 ghost use Rattle.std.specs.Prelude.{◌≡◌, length, MatchResult};
 ghost use Rattle.bottom.specs.BufferFault.{write_answer};
+ghost use Rattle.bottom.specs.BufferNumber.{Numbered};
 ghost use Rattle.bottom.specs.Foot.{new_bottom};
 ghost use Rattle.bottom.specs.PipeTable.{shown};
 ghost use Rattle.bottom.specs.MagnetChest.{magnet_meaning, MagnetSettled};
@@ -34,6 +35,7 @@ impl MagnetChest {
     pub fn write(&self, buffer: &mut [u8]) -> Result<(), BufferFault>
         ensures answer { result ≡ write_answer (length buffer.old) }
         ensures after { MatchResult result (λ _. shown buffer.new ≡ (magnet_meaning self.now).speaking) (λ _. buffer.new ≡ buffer.old) }
+        ensures number { Numbered (magnet_meaning self.now).speaking buffer.old buffer.new result }
         ensures len { length buffer.new ≡ length buffer.old }
     {
         if buffer.len() != BYTES {

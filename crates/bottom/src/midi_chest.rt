@@ -5,6 +5,7 @@ ghost use Rattle.chest.specs.Meaning.{Becomes, set_answer, set_after, turn_answe
 ghost use Rattle.bottom.specs.Foot.{new_bottom};
 ghost use Rattle.bottom.specs.MidiChest.{midi_meaning, MidiSettled, midi_sent, foot_of, NothingSent, midi_drained};
 ghost use Rattle.bottom.specs.Receiver.{DrainLaw};
+ghost use Rattle.bottom.specs.Notes.{NotesSent};
 ghost use Rattle.bottom.specs.Run.{Run};
 ghost use Rattle.bottom.specs.Sending.{MidiSends};
 ghost use Rattle.std.proofs.Common.{rules};
@@ -47,6 +48,7 @@ impl MidiChest {
         ensures sent { midi_sent self.new ≡ (midi_drained self.old (length out.old)).sent }
         ensures same { foot_of self.new ≡ foot_of self.old }
         ensures law { DrainLaw (midi_meaning self.old).speaking (midi_sent self.old) (midi_sent self.new) (length out.old) (take result out.new) }
+        ensures notes { NotesSent (midi_meaning self.old).speaking (midi_sent self.old) (midi_sent self.new) out.old out.new result }
         ensures run { (line : List ℕ) → Run self.old line → Run self.new (line ++ take result out.new) }
     {
         // lent whole, so that a proof knows that it stays
