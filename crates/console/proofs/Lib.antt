@@ -7,3 +7,7 @@ mod Captures
 mod Making
 mod Sending
 pub mod Records
+mod DoneCalls
+mod KeyLaws
+mod KnobLaws
+mod RefusalLaws

@@ -10,3 +10,7 @@ pub mod Tracks
 pub mod Sending
 pub mod Walks
 pub mod Plays
+pub mod DoneCalls
+pub mod KeyLaw
+pub mod KnobLaw
+pub mod RefusalLaw

@@ -1,5 +1,5 @@
 //! The knob table: the steps and the home of each knob that is defined.
-ghost use Rattle.std.specs.Prelude.{◌≡◌, ℕ, ◌<◌, ◌≤◌, true, false, ◌&&◌, ◌||◌, ◌==◌, ◌≢◌, Some, None, IfSome, MatchOption, nat_le, nat_lt, slice_index};
+ghost use Rattle.std.specs.Prelude.{◌≡◌, ℕ, ◌<◌, ◌≤◌, true, false, ◌&&◌, ◌||◌, ◌==◌, ◌≢◌, Some, None, IfSome, MatchOption, nat_le, nat_lt, slice_index, is_some, ◌↔◌};
 
 use chest::chest::{KNOBS, POSITIONS};
 use fittings::{Knob, LEAST_STEPS};
@@ -29,7 +29,8 @@ impl KnobTable {
 
     /// The table with one knob defined, or nothing where its number is 64 or more or it is not sound.
     pub fn with_knob(self, at: usize, knob: Knob) -> Option<KnobTable>
-        ensures { MatchOption result (nat_lt at 64 && sound knob.steps knob.home ≡ false) (λ t. (nat_lt at 64 && sound knob.steps knob.home ≡ true) × (steps_of t at ≡ Some knob.steps) × (home_of t at ≡ knob.home) × ((k : ℕ) → k ≢ at → (steps_of t k ≡ steps_of self k) × (home_of t k ≡ home_of self k))) }
+        ensures table { MatchOption result (nat_lt at 64 && sound knob.steps knob.home ≡ false) (λ t. (nat_lt at 64 && sound knob.steps knob.home ≡ true) × (steps_of t at ≡ Some knob.steps) × (home_of t at ≡ knob.home) × ((k : ℕ) → k ≢ at → (steps_of t k ≡ steps_of self k) × (home_of t k ≡ home_of self k))) }
+        ensures defined { (is_some result ≡ true) ↔ ((at < 64) × (2 ≤ knob.steps) × (knob.steps ≤ 16) × (knob.home < knob.steps)) }
     {
         let sound = (LEAST_STEPS..=POSITIONS).contains(&usize::from(knob.steps))
             && knob.home < knob.steps;

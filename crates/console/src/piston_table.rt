@@ -1,5 +1,5 @@
 //! The piston table: the knobs that each defined piston takes, and what was captured on it.
-ghost use Rattle.std.specs.Prelude.{◌≡◌, ℕ, ◌<◌, true, false, ◌&&◌, is_some, nat_lt, Some, None, MatchOption, ◌≢◌};
+ghost use Rattle.std.specs.Prelude.{◌≡◌, ◌↔◌, ℕ, ◌<◌, ◌≤◌, true, false, ◌&&◌, is_some, nat_lt, Some, None, MatchOption, ◌≢◌};
 ghost use Rattle.std.specs.Option.{option_map};
 ghost use Rattle.console.specs.PistonTable.{piston_at, scope_of, frame_of, sound_scope};
 
@@ -30,7 +30,8 @@ impl PistonTable {
 
     /// The table with one piston defined and not captured, or nothing where its number is 40 or more or its scope is not sound.
     pub fn with_piston(self, piston: usize, scope: Scope) -> Option<PistonTable>
-        ensures { MatchOption result (nat_lt piston 40 && sound_scope scope.lowest scope.highest ≡ false) (λ t. (nat_lt piston 40 && sound_scope scope.lowest scope.highest ≡ true) × (scope_of t piston ≡ Some scope) × (frame_of t piston ≡ None) × ((q : ℕ) → (q ≢ piston) → (scope_of t q ≡ scope_of self q) × (frame_of t q ≡ frame_of self q))) }
+        ensures table { MatchOption result (nat_lt piston 40 && sound_scope scope.lowest scope.highest ≡ false) (λ t. (nat_lt piston 40 && sound_scope scope.lowest scope.highest ≡ true) × (scope_of t piston ≡ Some scope) × (frame_of t piston ≡ None) × ((q : ℕ) → (q ≢ piston) → (scope_of t q ≡ scope_of self q) × (frame_of t q ≡ frame_of self q))) }
+        ensures defined { (is_some result ≡ true) ↔ ((piston < 40) × (scope.lowest ≤ scope.highest) × (scope.highest < 64)) }
     {
         let Scope { lowest, highest } = scope;
         if piston >= PISTONS || lowest > highest || usize::from(highest) >= KNOBS {

@@ -2,6 +2,9 @@
 ghost use Rattle.std.specs.Prelude.{◌≡◌, ◌+◌, ◌≤◌, true, List, ◌++◌, length, is_ok, IfOk, vec_len, vec_capacity, OnErr};
 ghost use Rattle.console.specs.Record.{Answer, EveryEntry};
 ghost use Rattle.console.specs.Plays.{Plays, HostsLaw, Touches};
+ghost use Rattle.console.specs.KeyLaw.{KeyLaw};
+ghost use Rattle.console.specs.KnobLaw.{KnobLaw};
+ghost use Rattle.console.specs.RefusalLaw.{RefusalLaw};
 
 use crate::call::Call;
 use crate::console::Console;
@@ -33,9 +36,13 @@ pub fn play<C: Chest + Drop>(
     Ok(console)
 }
 
-/// The law for a host that makes its calls one by one, and what it says at any one entry.
+/// The law for a host that makes its calls one by one, and what it says at any one entry. What it says of keys, knobs, pistons,
+/// refusals and strobes by the calls of a record alone.
 pub fn record_law<C: Chest>()
     ensures hosts { HostsLaw C.Chest.meaning C.Chest.settled }
     ensures entries { EveryEntry }
     ensures touches { Touches C.Chest.meaning C.Chest.settled }
+    ensures keys { KeyLaw }
+    ensures knobs { KnobLaw }
+    ensures refusals { RefusalLaw }
 {}

@@ -38,7 +38,7 @@ loop-k-preserved c =
     = elim c.match-knob.branch [
       | in-Some w ↦
           let sound = w.in-Some.ensures.bound in
-          subst (Says table next at) (sym w.in-Some.is ∙ c.knob.ensures.value) (taken w.with_knob.result table next at w.in-Some.knob w.with_knob.ensures (grind (arith, nat_tests)) (w.table-is ∙ w.unwrap_or-table.ensures))
+          subst (Says table next at) (sym w.in-Some.is ∙ c.knob.ensures.value) (taken w.with_knob.result table next at w.in-Some.knob w.with_knob.ensures.table (grind (arith, nat_tests)) (w.table-is ∙ w.unwrap_or-table.ensures))
       | in_default w ↦
           subst (Says table next at) (sym w.in_default.is ∙ c.knob.ensures.value) (record {
             steps = ap (λ x. steps_of x at) w.table-is ∙ so_far.0.1 at (omega arith);
