@@ -6,3 +6,6 @@ mod Stacks
 mod Filling
 mod Organs
 pub mod Answering
+mod RefusedLines
+mod ListingLines
+mod Paths

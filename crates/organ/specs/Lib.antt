@@ -10,3 +10,8 @@ pub mod Opening
 pub mod Responses
 pub mod Answered
 pub mod Refused
+pub mod FaultTable
+pub mod ListingLines
+pub mod Paths
+pub mod NewStack
+pub mod BookSetup

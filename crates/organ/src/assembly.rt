@@ -1,10 +1,13 @@
 //! From a book's record to a stack: coupler board and stop board over a bottom chest, with the book's wires.
-ghost use Rattle.std.specs.Prelude.{◌≡◌, Ok, Err, MatchResult};
+ghost use Rattle.std.specs.Prelude.{◌≡◌, Ok, Err, IfOk, IfErr, MatchResult};
 ghost use Rattle.board.specs.Relay.{Settled, wired_of};
 ghost use Rattle.chest.specs.Reaches.{reach_of};
-ghost use Rattle.book.specs.Book.{keys_in};
+ghost use Rattle.book.specs.Book.{LinesRise, keys_in};
 ghost use Rattle.organ.specs.Assembly.{hang_all, Assembles};
-ghost use Rattle.organ.specs.Fitter.{FittedInOrder};
+ghost use Rattle.organ.specs.Fitter.{FittedInOrder, RefusedOnLine};
+ghost use Rattle.organ.specs.NewStack.{NewStack};
+ghost use Rattle.organ.specs.Paths.{PathLaw};
+ghost use Rattle.organ.specs.Stack.{stacked};
 ghost use Rattle.organ.specs.Pass.{fit_run, earlier_of};
 
 use crate::refusal::Refusal;
@@ -76,6 +79,9 @@ fn hang<C: Chest + Drop>(
 /// The stack of a book over a bottom chest, or the first wire that its board refuses.
 pub fn assemble<C: Chest + Drop>(book: &Book, bottom: C) -> Result<Stack<C>, Refusal>
     ensures law { C.Chest.settled bottom → FittedInOrder (keys_in book.now) (C.Chest.meaning bottom) C.Chest.meaning book.now.wires.items result }
+    ensures lines { C.Chest.settled bottom → LinesRise book.now.wires.items → IfErr result (RefusedOnLine (keys_in book.now) (C.Chest.meaning bottom) book.now.wires.items) }
+    ensures made { C.Chest.settled bottom → IfOk result (λ stack. NewStack (keys_in book.now) (C.Chest.meaning bottom) (stacked C.Chest.meaning stack)) }
+    ensures paths { C.Chest.settled bottom → IfOk result (λ stack. PathLaw (keys_in book.now) (C.Chest.meaning bottom) book.now.wires.items (stacked C.Chest.meaning stack).rule) }
     ensures cases { C.Chest.settled bottom → Assembles C.Chest.meaning C.Chest.settled (keys_in book.now) (C.Chest.meaning bottom) (hang_all (keys_in book.now) (C.Chest.meaning bottom) book.now.wires.items) result }
 {
     let reaches = array::from_fn(|division| book.keys(division));
