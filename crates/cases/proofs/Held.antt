@@ -20,7 +20,7 @@ held [] = none
 held (t ∷ ts) = put (held ts) t.0 t.1 true
 
 -- two lists in a row
-either_held : (xs ys : List (ℕ × ℕ)) → held (xs ++ ys) ≡ either (held xs) (held ys)
+pub either_held : (xs ys : List (ℕ × ℕ)) → held (xs ++ ys) ≡ either (held xs) (held ys)
 either_held [] ys = refl
 either_held (t ∷ xs) ys = ap (λ s. put s t.0 t.1 true) (either_held xs ys) ∙ λ i b q. by (eqb b t.0 && eqb q t.1) (held xs b q) (held ys b q) i where
   by : (on x y : Bool) → cond on true (x || y) ≡ (cond on true x || y)

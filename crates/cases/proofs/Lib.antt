@@ -8,3 +8,10 @@ pub mod Sustaining
 pub mod Swapping
 pub mod Lines
 pub mod Worked
+pub mod Counted
+pub mod KeyLists
+pub mod Rolls
+pub mod Hanging
+pub mod Listed
+pub mod Recitals
+pub mod Refusals
